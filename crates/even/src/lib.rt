@@ -1,0 +1,1 @@
+// What an even plan is, and every theorem about any even plan.
