@@ -1,1 +1,6 @@
 pub mod Day
+pub mod Evenest
+pub mod More
+pub mod Tariff
+pub mod Whole
+pub mod Grouped

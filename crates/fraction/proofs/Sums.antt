@@ -254,3 +254,51 @@ any-hasn't n p h =
         inl t ↦ (let r = any-some n p t in let w = h (r .0) (r .1) in let v = r .2 in absurd (grind arith))
         | inr f ↦ f
     ]
+
+-- a factor taken out of the sum over a set
+pub part-mul : (n : ℕ) (p : ℕ → Bool) (f : ℕ → ℕ) (c : ℕ) → part n p (λ i. f i * c) ≡ part n p f * c
+part-mul n p f c =
+    sum-same n _ (λ i. cond (p i) (f i) 0 * c)
+    (λ i l. elim (p i) as (λ b. cond b (f i * c) 0 ≡ cond b (f i) 0 * c) [ true ↦ refl | false ↦ omega arith ])
+    ∙ sum-mul n (λ i. cond (p i) (f i) 0) c
+
+-- the rows of a set summed, or the columns of these rows
+pub part-swap :
+    (m n : ℕ) (p : ℕ → Bool) (f : ℕ → ℕ → ℕ) → part m p (λ i. sum n (f i)) ≡ sum n (λ j. part m p (λ i. f i j))
+part-swap m n p f =
+    sum-same m _ (λ i. sum n (λ j. cond (p i) (f i j) 0))
+    (λ i l. elim (p i) as (λ b. cond b (sum n (f i)) 0 ≡ sum n (λ j. cond b (f i j) 0)) [
+        true ↦ refl
+        | false ↦ sym (sum-zero n (λ j. 0) (λ j k. refl))
+    ])
+    ∙ sum-swap m n (λ i j. cond (p i) (f i j) 0)
+
+-- what is 0 outside a set adds up within it
+pub part-all :
+    (n : ℕ) (p : ℕ → Bool) (f : ℕ → ℕ) → ((i : ℕ) → i < n → p i ≡ false → f i ≡ 0) → part n p f ≡ sum n f
+part-all n p f h = sum-same n _ f (λ i l. let k = h i l in grind arith)
+
+-- terms taken by an index each, no two the same, add up to at most all
+pub sum-inject :
+    (m n : ℕ) (f : ℕ → ℕ) (g : ℕ → ℕ) → ((j : ℕ) → j < m → f j < n) →
+    ((i j : ℕ) → i < j → j < m → f i ≡ f j → ⊥) → sum m (λ j. g (f j)) ≤ sum n g
+unfolding sum
+sum-inject zero n f g within apart = omega arith
+sum-inject (suc m) n f g within apart =
+    let rest : ℕ → ℕ = λ i. cond (eqb i (f m)) 0 (g i) in
+    let u = sum-update n g rest (f m) (within m (omega arith)) (λ i l ne. grind (arith, tells)) in
+    let gone : rest (f m) ≡ 0 = grind (arith, tells) in
+    let same =
+        sum-same m (λ j. g (f j)) (λ j. rest (f j)) (λ j l. let d = apart j m l (omega arith) in grind (arith, tells)) in
+    let r = sum-inject m n f rest (λ j l. within j (omega arith)) (λ i j l k. apart i j l (omega arith)) in
+    omega (arith, u, gone, same, r)
+
+-- terms from m on that are 0 add nothing
+pub sum-tail : (m n : ℕ) (f : ℕ → ℕ) → m ≤ n → ((i : ℕ) → m ≤ i → i < n → f i ≡ 0) → sum n f ≡ sum m f
+unfolding sum
+sum-tail m zero f l h = let e : m ≡ 0 = omega arith in rw e
+sum-tail m (suc n) f l h =
+    elim (cases-eq m (suc n)) [
+        inl e ↦ rw e
+        | inr ne ↦ omega (arith, h n (omega arith) (omega arith), sum-tail m n f (omega arith) (λ i k j. h i k (omega arith)))
+    ]
