@@ -1,18 +1,17 @@
 -- Each group is the densest of what is left when it is found, of equals the one with the most hours.
 use mathlib.Core.Path.{_≡_, refl, sym, _∙_, ap}
 use mathlib.Core.Bool.{Bool, true, false, cond, _&&_}
-use mathlib.Core.Logic.{_⊎_, inl, inr}
-use Prim.Native.Nat.{ℕ, zero, suc, _+_, _*_, _/_, _≤_, _<_}
+use mathlib.Core.Logic.{inl, inr}
+use Prim.Native.Nat.{ℕ, _*_, _/_, _≤_, _<_}
 use native.Mathlib.Omega.{arith}
 use native.Mathlib.Nat.{mul-assoc, mul-right-comm, mul-le-mul-right, le-of-mul-le-mul-right, zero-mul}
-use lib.Dec.{eqb, leb}
 use Rattle.std.proofs.shelf.Ways.{tells}
 use Rattle.std.proofs.shelf.Tests.{cases-eq, cases-lt, cases-bool, and-parts, and-from, eqb-true, eq-eqb, ne-eqb, leb-true, le-leb}
-use Rattle.fraction.specs.Sum.{sum, part, size, any, both}
-use Rattle.fraction.proofs.Sums.{sum-same, sum-le, sum-mul, sum-zero, sum-some, sum-tight, part-le, part-mul, part-swap, part-same-on, part-const, any-some, any-has}
-use Rattle.even.specs.Day.{Day, Plan, Even, load}
+use Rattle.fraction.specs.Sum.{sum, part, size, both}
+use Rattle.fraction.proofs.Sums.{sum-same, sum-le, sum-mul, sum-zero, sum-some, sum-tight, part-le, part-mul, part-swap, part-same-on, part-same-test, part-const, any-some, any-has}
+use Rattle.even.specs.Day.{Day, load}
 use Rattle.even.specs.Whole.{whole}
-use Rattle.even.specs.Grouped.{Grouped, spread, reach, within, left, Densest, Densest-first}
+use Rattle.even.specs.Grouped.{Grouped, spread, reach, within, left, Densest, First-densest}
 use Rattle.even.proofs.Shares.{whole-some}
 use Rattle.even.proofs.GroupedEven.{grouped-plan, load-under, load-less}
 
@@ -158,8 +157,9 @@ module _ {y : Day} {k : ℕ} {num den group at : ℕ → ℕ} {a : ℕ → ℕ �
               (arith, rw (and-from (reach y q s) (left at g s) r f) at t, mul-le-mul-right (den g) (column-load s), load-less w s g l (omega (arith, m .3, w .some (m .0) (m .1))) (omega (arith, leb-true g (at s) f))))
         ]
 
-pub densest-first : Densest-first
-unfolding Densest-first
+pub densest-first :
+    (y : Day) (k : ℕ) (num den group at : ℕ → ℕ) (a : ℕ → ℕ → ℕ) → Grouped y k num den group at a →
+    (g : ℕ) → g < k → Densest y num den group at g
 densest-first y k num den group at a w g l =
     record {
       weighs = group-weighs w g l;
@@ -168,3 +168,14 @@ densest-first y k num den group at a w g l =
       most = group-most w g l;
       widest = group-widest w g l;
     }
+
+-- when the first group is found, all is left
+pub first-densest :
+    (y : Day) (k : ℕ) (num den group at : ℕ → ℕ) (a : ℕ → ℕ → ℕ) → Grouped y k num den group at a →
+    0 < k → (q : ℕ → Bool) → First-densest y num den at q
+first-densest y k num den group at a w some q =
+    let rest : (j : ℕ) → j < y .tasks → q j ≡ true → 0 ≤ group j = λ j l t. omega arith in
+    let all =
+    part-same-test (y .hours) (both (reach y q) (left at 0)) (reach y q) (λ s. 1)
+    (λ s l. let t = le-leb 0 (at s) (omega arith) in grind arith) in
+    record { most = rw all at (group-most w 0 some q rest); widest = λ e s l r. group-widest w 0 some q rest (e ∙ ap (λ v. v * num 0) (sym all)) s l r (le-leb 0 (at s) (omega arith)) }

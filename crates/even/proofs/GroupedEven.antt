@@ -1,16 +1,14 @@
 -- Groups whose levels fall make an even plan.
-use mathlib.Core.Path.{_≡_, refl, sym, _∙_, ap}
-use mathlib.Core.Bool.{Bool, true, false}
-use mathlib.Core.Logic.{_⊎_, inl, inr}
-use Prim.Native.Nat.{ℕ, zero, suc, _+_, _*_, _/_, _≤_, _<_}
+use mathlib.Core.Path.{_≡_, sym, _∙_, ap}
+use mathlib.Core.Logic.{inl, inr}
+use Prim.Native.Nat.{ℕ, _*_, _/_, _≤_, _<_}
 use native.Mathlib.Omega.{arith}
 use native.Mathlib.Nat.{mul-assoc, mul-comm, mul-right-comm, mul-le-mul-right, le-of-mul-le-mul-right, mul-lt-mul-of-pos-right, lt-of-mul-lt-mul-right, zero-mul}
 use Rattle.std.proofs.shelf.Tests.{cases-eq, cases-lt}
-use Rattle.fraction.specs.Sum.{sum}
 use Rattle.fraction.proofs.Sums.{sum-same, sum-mul, sum-zero}
 use Rattle.even.specs.Day.{Day, Plan, Even, load}
 use Rattle.even.specs.Whole.{whole}
-use Rattle.even.specs.Grouped.{Grouped, spread, Levelled, Grouped-even}
+use Rattle.even.specs.Grouped.{Grouped, Levelled, spread}
 use Rattle.even.proofs.Shares.{whole-share, whole-some}
 
 -- a load l = p w / q of a level p / q that is at most u / v, or below it, is at most u w / v, or below it
@@ -106,7 +104,8 @@ module _ {y : Day} {k : ℕ} {num den group at : ℕ → ℕ} {a : ℕ → ℕ �
       let e = w .own j s lj ls p in
       load-falls s t ls lt (omega (arith, w .some j lj)) (omega (arith, w .before j t lj lt may))
 
-pub grouped-is-even : Grouped-even
-unfolding Grouped-even
+pub grouped-is-even :
+    (y : Day) (k : ℕ) (num den group at : ℕ → ℕ) (a : ℕ → ℕ → ℕ) → Grouped y k num den group at a →
+    Levelled y k num den at (spread den group a)
 grouped-is-even y k num den group at a w =
     record { plan = grouped-plan w; even = grouped-even w; level = grouped-load w; idle = grouped-idle w }

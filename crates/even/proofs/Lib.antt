@@ -5,3 +5,6 @@ pub mod Cost
 pub mod Shares
 pub mod GroupedEven
 pub mod GroupedDensest
+pub mod AlwaysMoves
+pub mod AlwaysSettled
+pub mod AlwaysEven

@@ -1,8 +1,8 @@
 -- Every denominator from 1 to 255 divides the whole.
-use mathlib.Core.Path.{_≡_, refl, sym, _∙_, ap}
-use mathlib.Core.Bool.{Bool, true, false, _&&_}
-use mathlib.Core.Logic.{_⊎_, inl, inr}
-use Prim.Native.Nat.{ℕ, zero, suc, _+_, _*_, _/_, _%_, _≤_, _<_}
+use mathlib.Core.Path.{_≡_, refl}
+use mathlib.Core.Bool.{Bool, true, _&&_}
+use mathlib.Core.Logic.{inl, inr}
+use Prim.Native.Nat.{ℕ, zero, suc, _*_, _/_, _%_, _≤_, _<_}
 use native.Mathlib.Omega.{arith}
 use native.Mathlib.Nat.{div-add-mod'}
 use lib.Dec.{eqb, lit<}
@@ -32,11 +32,3 @@ whole-share q l m = omega (arith, divided-at whole 255 q whole-divided l m, div-
 pub whole-some : 0 < whole
 unfolding whole
 whole-some = lit< tt
-
--- a share isn't nothing
-pub whole-share-some : (q : ℕ) → 0 < q → q ≤ 255 → 0 < whole / q
-whole-share-some q l m =
-    elim (cases-eq (whole / q) 0) [
-      | inl e ↦ absurd (omega (arith, whole-share q l m, ap (λ v. v * q) e, whole-some))
-      | inr ne ↦ omega arith
-    ]

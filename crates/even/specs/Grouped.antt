@@ -39,11 +39,6 @@ pub record Levelled (y : Day) (k : ℕ) (num den at : ℕ → ℕ) (x : ℕ → 
   pub level : (s : ℕ) → s < y .hours → at s < k → load y x s * den (at s) ≡ num (at s) * whole
   pub idle : (s : ℕ) → s < y .hours → k ≤ at s → load y x s ≡ 0
 
-unfoldable pub Grouped-even : Type 0
-Grouped-even =
-    (y : Day) (k : ℕ) (num den group at : ℕ → ℕ) (a : ℕ → ℕ → ℕ) → Grouped y k num den group at a →
-    Levelled y k num den at (spread den group a)
-
 -- hour s is one that some task of the set q may use
 abbrev pub reach : Day → (ℕ → Bool) → ℕ → Bool
 reach y q s = any (y .tasks) (λ j. q j && y .may j s)
@@ -72,8 +67,9 @@ pub record Densest (y : Day) (num den group at : ℕ → ℕ) (g : ℕ) : Type 0
       part (y .tasks) q (y .work) * den g ≡ size (y .hours) (both (reach y q) (left at g)) * num g →
       (s : ℕ) → s < y .hours → reach y q s ≡ true → left at g s ≡ true → at s ≡ g
 
--- each group is; the first of all tasks and hours, since all are left
-unfoldable pub Densest-first : Type 0
-Densest-first =
-    (y : Day) (k : ℕ) (num den group at : ℕ → ℕ) (a : ℕ → ℕ → ℕ) → Grouped y k num den group at a →
-    (g : ℕ) → g < k → Densest y num den group at g
+-- group 0 is the densest of all sets of tasks q, of equals the one with the most hours
+pub record First-densest (y : Day) (num den at : ℕ → ℕ) (q : ℕ → Bool) : Type 0 where
+  pub most : part (y .tasks) q (y .work) * den 0 ≤ size (y .hours) (reach y q) * num 0
+  pub widest :
+      part (y .tasks) q (y .work) * den 0 ≡ size (y .hours) (reach y q) * num 0 →
+      (s : ℕ) → s < y .hours → reach y q s ≡ true → at s ≡ 0

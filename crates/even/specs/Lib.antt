@@ -4,3 +4,4 @@ pub mod More
 pub mod Tariff
 pub mod Whole
 pub mod Grouped
+pub mod Always

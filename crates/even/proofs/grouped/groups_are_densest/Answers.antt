@@ -1,6 +1,5 @@
-use mathlib.Core.Path.{refl}
 use Rattle.even.proofs.GroupedDensest.{densest-first}
 use Rattle.even.proofs.grouped.groups_are_densest.Needs as need
 
 pub returns : need.returns
-returns c = (λ _. densest-first, λ _. refl)
+returns c = densest-first

@@ -1,6 +1,5 @@
-use mathlib.Core.Path.{refl}
 use Rattle.even.proofs.GroupedEven.{grouped-is-even}
 use Rattle.even.proofs.grouped.groups_make_even_plans.Needs as need
 
 pub returns : need.returns
-returns c = (λ _. grouped-is-even, λ _. refl)
+returns c = grouped-is-even
