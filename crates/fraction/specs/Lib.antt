@@ -1,1 +1,3 @@
 pub mod Sum
+pub mod Fraction
+pub mod Range
