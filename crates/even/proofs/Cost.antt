@@ -1,13 +1,16 @@
 -- Cost by a tariff whose prices never fall, by what lies above each level.
-use mathlib.Core.Path.{_≡_, refl, sym, _∙_, ap}
-use mathlib.Core.Logic.{_⊎_, inl, inr}
+use mathlib.Core.Path.{_≡_, sym, _∙_, ap}
+use mathlib.Core.Logic.{inl, inr}
 use Prim.Native.Nat.{ℕ, zero, suc, _+_, _*_, _-_, _≤_, _<_, min}
 use native.Mathlib.Omega.{arith}
-use native.Mathlib.Nat.{mul-le-mul-left, mul-le-mul-right, mul-assoc, mul-comm, mul-add, add-mul, mul-zero, mul-sub, le-mul-of-pos-right, le-of-lt}
-use Rattle.std.proofs.shelf.Tests.{cases-eq, cases-lt}
+use native.Mathlib.Nat.{mul-le-mul-left, mul-le-mul-right, mul-assoc, mul-comm, mul-add, add-mul, mul-zero, le-mul-of-pos-right, le-of-lt}
+use Rattle.std.proofs.shelf.Tests.{cases-lt}
 use Rattle.fraction.specs.Sum.{sum}
-use Rattle.fraction.proofs.Sums.{sum-same, sum-le, sum-zero, sum-at, sum-add, sum-mul, sum-swap, sum-tail}
-use Rattle.even.specs.Tariff.{used, price}
+use Rattle.fraction.proofs.Sums.{sum-same, sum-zero, sum-at, sum-add, sum-mul, sum-swap, sum-tail}
+use Rattle.even.specs.Day.{Day, load}
+use Rattle.even.specs.Evenest.{times}
+use Rattle.even.specs.Tariff.{used, price, cost}
+use Rattle.even.proofs.Scale.{sub-times, load-times}
 
 -- unit k is what lies above its foot and not above its top
 used-above : (d l k : ℕ) → used d l k + (l - suc k * d) ≡ l - k * d
@@ -25,13 +28,13 @@ price-upto p d l n pos le =
 min-times : (a b c : ℕ) → min (a * c) (b * c) ≡ min a b * c
 min-times a b c =
     elim (cases-lt a b) [
-        inl l ↦ (let h = mul-le-mul-right c (le-of-lt l) in let e : min a b ≡ a = omega arith in rw e (omega (arith, h)))
-        | inr g ↦ (let h = mul-le-mul-right c g in let e : min a b ≡ b = omega arith in rw e (omega (arith, h)))
+      | inl l ↦ (let h = mul-le-mul-right c (le-of-lt l) in let e : min a b ≡ a = omega arith in rw e (omega (arith, h)))
+      | inr g ↦ (let h = mul-le-mul-right c g in let e : min a b ≡ b = omega arith in rw e (omega (arith, h)))
     ]
 
 used-times : (d e l k : ℕ) → used (d * e) (l * e) k ≡ used d l k * e
 used-times d e l k =
-    ap (λ v. min (d * e) v) (ap (λ v. l * e - v) (sym (mul-assoc k d e)) ∙ (ap (λ v. v - k * d * e) (mul-comm l e) ∙ (ap (λ v. e * l - v) (mul-comm (k * d) e) ∙ (sym (mul-sub e l (k * d)) ∙ mul-comm e (l - k * d)))))
+    ap (λ v. min (d * e) v) (ap (λ v. l * e - v) (sym (mul-assoc k d e)) ∙ sym (sub-times l (k * d) e))
     ∙ min-times d (l - k * d) e
 
 -- a load in smaller parts costs as many times the number
@@ -41,6 +44,37 @@ price-times p d e l pos-d pos-e =
     (λ k _. ap (λ v. p k * v) (used-times d e l k) ∙ sym (mul-assoc (p k) (used d l k) e))
     ∙ (sum-mul (l * e) (λ k. p k * used d l k) e
     ∙ ap (λ v. v * e) (price-upto p d l (l * e) pos-d (le-mul-of-pos-right l pos-e)))
+
+pub cost-times :
+    (p : ℕ → ℕ) (y : Day) (d c : ℕ) (x : ℕ → ℕ → ℕ) → 0 < d → 0 < c → cost p y (d * c) (times c x) ≡ cost p y d x * c
+cost-times p y d c x pos-d pos-c =
+    sum-same (y .hours) _ (λ s. price p d (load y x s) * c)
+    (λ s _. ap (λ l. price p (d * c) l) (load-times y c x s) ∙ price-times p d c (load y x s) pos-d pos-c)
+    ∙ sum-mul (y .hours) (λ s. price p d (load y x s)) c
+
+-- a unit that the load covers, and one that it doesn't reach
+used-full : (d l k : ℕ) → suc k * d ≤ l → used d l k ≡ d
+used-full d l k h = omega arith
+
+used-past : (d l k : ℕ) → l ≤ k * d → used d l k ≡ 0
+used-past d l k h = omega arith
+
+-- n whole units and r parts of the next: all of the price of each, and that part of the next one's
+pub price-units : (p : ℕ → ℕ) (d n r : ℕ) → r < d → price p d (n * d + r) ≡ sum n p * d + p n * r
+unfolding sum
+price-units p d n r l =
+    let all = n * d + r in
+    let last : used d all n ≡ r = omega arith in
+    omega (
+      arith,
+      price-upto p d all (suc n + all) (omega arith) (omega arith),
+      sum-tail (suc n) (suc n + all) (λ k. p k * used d all k) (omega arith)
+          (λ k m _. ap (λ v. p k * v) (used-past d all k (omega (arith, mul-le-mul-right d m))) ∙ mul-zero (p k)),
+      sum-same n (λ k. p k * used d all k) (λ k. p k * d)
+          (λ k m. ap (λ v. p k * v) (used-full d all k (omega (arith, mul-le-mul-right d m)))),
+      ap (λ v. p n * v) last,
+      sum-mul n p d,
+    )
 
 -- what lies above unit k's foot, over n hours
 abbrev over : ℕ → (ℕ → ℕ) → ℕ → ℕ → ℕ
@@ -83,7 +117,7 @@ by-units :
 by-units n X d p K pos high =
     sum-same K _ (λ k. sum n (λ s. p k * used d (X s) k))
     (λ k _. mul-comm (p k) (taken n X d k)
-        ∙ (sym (sum-mul n (λ s. used d (X s) k) (p k)) ∙ sum-same n _ _ (λ s _. mul-comm (used d (X s) k) (p k))))
+    ∙ (sym (sum-mul n (λ s. used d (X s) k) (p k)) ∙ sum-same n _ _ (λ s _. mul-comm (used d (X s) k) (p k))))
     ∙ (sum-swap K n (λ k s. p k * used d (X s) k) ∙ sum-same n _ _ (λ s l. price-upto p d (X s) K pos (high s l)))
 
 -- beyond the first K units nothing is left
@@ -101,6 +135,11 @@ cost-least n X Z d p pos rise least =
     let K = sum n X + sum n Z in
     let high-x : (s : ℕ) → s < n → X s ≤ K = λ s l. omega (arith, sum-at n X s l) in
     let high-z : (s : ℕ) → s < n → Z s ≤ K = λ s l. omega (arith, sum-at n Z s l) in
-    omega
-    (arith, first-units n X Z d p rise (λ k. least (k * d)) K, by-units n X d p K pos high-x, by-units n Z d p K pos high-z,
-    ap (λ v. p K * v) (over-none n X d K pos high-x), ap (λ v. p K * v) (over-none n Z d K pos high-z))
+    omega (
+      arith,
+      first-units n X Z d p rise (λ k. least (k * d)) K,
+      by-units n X d p K pos high-x,
+      by-units n Z d p K pos high-z,
+      ap (λ v. p K * v) (over-none n X d K pos high-x),
+      ap (λ v. p K * v) (over-none n Z d K pos high-z),
+    )

@@ -5,3 +5,5 @@ pub mod Tariff
 pub mod Whole
 pub mod Grouped
 pub mod Always
+pub mod Densest
+pub mod Worked

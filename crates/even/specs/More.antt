@@ -1,6 +1,6 @@
 -- Days with more work. Assumes nothing: these are definitions.
 use mathlib.Core.Path.{_≡_}
-use mathlib.Core.Bool.{Bool, true, false, cond}
+use mathlib.Core.Bool.{Bool, cond}
 use Prim.Native.Nat.{ℕ, suc, _+_, _*_, _-_, _≤_, _<_}
 use lib.Dec.{eqb, ltb}
 use Rattle.even.specs.Day.{Day, load}
@@ -27,14 +27,17 @@ raised y i u =
 abbrev pub longer : Day → ℕ → (ℕ → Bool) → Day
 longer y u p =
     record {
-        tasks = suc (y .tasks); hours = y .hours; work = λ j. cond (eqb j (y .tasks)) u (y .work j);
-        may = λ j. cond (eqb j (y .tasks)) p (y .may j)
+      tasks = suc (y .tasks);
+      hours = y .hours;
+      work = λ j. cond (eqb j (y .tasks)) u (y .work j);
+      may = λ j. cond (eqb j (y .tasks)) p (y .may j);
     }
 
--- the day with task i gone: later tasks have moved down by one
+-- the number that task j had before task i was gone: later tasks have moved down by one
 abbrev pub skip : ℕ → ℕ → ℕ
 skip i j = cond (ltb j i) j (suc j)
 
+-- the day with task i gone
 abbrev pub shorter : Day → ℕ → Day
 shorter y i =
     record { tasks = y .tasks - 1; hours = y .hours; work = λ j. y .work (skip i j); may = λ j. y .may (skip i j) }

@@ -1,9 +1,8 @@
--- What a plan costs by a tariff that is the same for each hour. Assumes nothing: these are definitions.
+-- What a plan costs by a tariff p that is the same for each hour: p k is the price of unit k of an hour, the first being unit 0.
+-- Assumes nothing: these are definitions.
 use Prim.Native.Nat.{ℕ, _*_, _-_, _≤_, min}
 use Rattle.fraction.specs.Sum.{sum}
 use Rattle.even.specs.Day.{Day, load}
-
--- a tariff: p k is the price of unit k of an hour, the first one being unit 0
 
 -- how much of unit k a load of l uses, in parts of 1 / d: all of it, or what is left of the load
 abbrev pub used : ℕ → ℕ → ℕ → ℕ

@@ -37,8 +37,8 @@ unfolding sum
 sum-lt zero f g h k l d = absurd (omega arith)
 sum-lt (suc n) f g h k l d =
     elim (cases-eq k n) [
-        inl e ↦ omega (arith, rw e at d, sum-le n f g (λ i m. h i (omega arith)))
-        | inr ne ↦ omega (arith, h n (omega arith), sum-lt n f g (λ i m. h i (omega arith)) k (omega arith) d)
+      | inl e ↦ omega (arith, rw e at d, sum-le n f g (λ i m. h i (omega arith)))
+      | inr ne ↦ omega (arith, h n (omega arith), sum-lt n f g (λ i m. h i (omega arith)) k (omega arith) d)
     ]
 
 -- a strict inequality of sums gives a strict inequality at some index
@@ -47,8 +47,8 @@ unfolding sum
 sum-less zero f g h = absurd (omega arith)
 sum-less (suc n) f g h =
     elim (cases-lt (f n) (g n)) [
-        inl l ↦ (n, omega arith, l)
-        | inr ge ↦ (let r = sum-less n f g (omega arith) in (r .0, omega (arith, r .1), r .2))
+      | inl l ↦ (n, omega arith, l)
+      | inr ge ↦ (let r = sum-less n f g (omega arith) in (r .0, omega (arith, r .1), r .2))
     ]
 
 -- terms that are at most others, with a sum that is at least theirs, are equal to them
@@ -78,8 +78,8 @@ unfolding sum
 sum-some zero f h = absurd (omega arith)
 sum-some (suc n) f h =
     elim (cases-lt 0 (f n)) [
-        inl l ↦ (n, omega arith, l)
-        | inr z ↦ (let r = sum-some n f (omega arith) in (r .0, omega (arith, r .1), r .2))
+      | inl l ↦ (n, omega arith, l)
+      | inr z ↦ (let r = sum-some n f (omega arith) in (r .0, omega (arith, r .1), r .2))
     ]
 
 -- one term more still lies within a longer sum
@@ -124,10 +124,10 @@ unfolding sum
 sum-update zero f g k l h = absurd (omega arith)
 sum-update (suc n) f g k l h =
     elim (cases-eq k n) [
-        inl e ↦ rw e (omega (arith, sum-same n f g (λ i m. h i (omega arith) (omega arith))))
-        | inr ne ↦
-            omega
-            (arith, h n (omega arith) (omega arith), sum-update n f g k (omega arith) (λ i m. h i (omega arith)))
+      | inl e ↦ rw e (omega (arith, sum-same n f g (λ i m. h i (omega arith) (omega arith))))
+      | inr ne ↦
+          omega
+          (arith, h n (omega arith) (omega arith), sum-update n f g k (omega arith) (λ i m. h i (omega arith)))
     ]
 
 -- all terms but one are 0
@@ -144,7 +144,7 @@ pub sum-two :
 sum-two n f g a b la lb ne h =
     let mid : ℕ → ℕ = λ i. cond (eqb i a) (g a) (f i) in
     let u =
-        sum-update n f mid a la (λ i l d. grind (arith, tells)) in
+    sum-update n f mid a la (λ i l d. grind (arith, tells)) in
     let v = sum-update n mid g b lb (λ i l d. elim (cases-eq i a) [ inl e ↦ rw e (grind (arith, tells)) | inr na ↦ let w = h i l na d in grind (arith, tells) ]) in
     let ma : mid a ≡ g a = grind (arith, tells) in
     let mb : mid b ≡ f b = grind (arith, tells) in
@@ -221,12 +221,12 @@ pub look :
 look zero h = inr (λ i l. absurd (omega arith))
 look {P} {Q} (suc n) h =
     elim (h n (omega arith)) [
-        inl p ↦ inl (n, omega arith, p)
-        | inr q ↦
-            elim (look {P = P} {Q = Q} n (λ i l. h i (omega arith))) [
-                inl r ↦ inl (r .0, omega (arith, r .1), r .2)
-                | inr all ↦ inr (λ i l. elim (cases-eq i n) [ inl e ↦ rw e q | inr ne ↦ all i (omega arith) ])
-            ]
+      | inl p ↦ inl (n, omega arith, p)
+      | inr q ↦
+          elim (look {P = P} {Q = Q} n (λ i l. h i (omega arith))) [
+            | inl r ↦ inl (r .0, omega (arith, r .1), r .2)
+            | inr all ↦ inr (λ i l. elim (cases-eq i n) [ inl e ↦ rw e q | inr ne ↦ all i (omega arith) ])
+          ]
     ]
 
 pub any-some : (n : ℕ) (p : ℕ → Bool) → any n p ≡ true → (i : ℕ) × (i < n) × (p i ≡ true)
@@ -234,8 +234,8 @@ unfolding any
 any-some zero p h = absurd (grind arith)
 any-some (suc n) p h =
     elim (cases-bool (p n)) [
-        inl t ↦ (n, omega arith, t)
-        | inr f ↦ (let r = any-some n p (grind arith) in (r .0, omega (arith, r .1), r .2))
+      | inl t ↦ (n, omega arith, t)
+      | inr f ↦ (let r = any-some n p (grind arith) in (r .0, omega (arith, r .1), r .2))
     ]
 
 pub any-none : (n : ℕ) (p : ℕ → Bool) → any n p ≡ false → (i : ℕ) → i < n → p i ≡ false
@@ -251,8 +251,8 @@ any-has n p k l h =
 pub any-hasn't : (n : ℕ) (p : ℕ → Bool) → ((i : ℕ) → i < n → p i ≡ false) → any n p ≡ false
 any-hasn't n p h =
     elim (cases-bool (any n p)) [
-        inl t ↦ (let r = any-some n p t in let w = h (r .0) (r .1) in let v = r .2 in absurd (grind arith))
-        | inr f ↦ f
+      | inl t ↦ (let r = any-some n p t in let w = h (r .0) (r .1) in let v = r .2 in absurd (grind arith))
+      | inr f ↦ f
     ]
 
 -- a factor taken out of the sum over a set
@@ -268,8 +268,8 @@ pub part-swap :
 part-swap m n p f =
     sum-same m _ (λ i. sum n (λ j. cond (p i) (f i j) 0))
     (λ i l. elim (p i) as (λ b. cond b (sum n (f i)) 0 ≡ sum n (λ j. cond b (f i j) 0)) [
-        true ↦ refl
-        | false ↦ sym (sum-zero n (λ j. 0) (λ j k. refl))
+      | true ↦ refl
+      | false ↦ sym (sum-zero n (λ j. 0) (λ j k. refl))
     ])
     ∙ sum-swap m n (λ i j. cond (p i) (f i j) 0)
 
@@ -289,7 +289,7 @@ sum-inject (suc m) n f g within apart =
     let u = sum-update n g rest (f m) (within m (omega arith)) (λ i l ne. grind (arith, tells)) in
     let gone : rest (f m) ≡ 0 = grind (arith, tells) in
     let same =
-        sum-same m (λ j. g (f j)) (λ j. rest (f j)) (λ j l. let d = apart j m l (omega arith) in grind (arith, tells)) in
+    sum-same m (λ j. g (f j)) (λ j. rest (f j)) (λ j l. let d = apart j m l (omega arith) in grind (arith, tells)) in
     let r = sum-inject m n f rest (λ j l. within j (omega arith)) (λ i j l k. apart i j l (omega arith)) in
     omega (arith, u, gone, same, r)
 
@@ -299,6 +299,17 @@ unfolding sum
 sum-tail m zero f l h = let e : m ≡ 0 = omega arith in rw e
 sum-tail m (suc n) f l h =
     elim (cases-eq m (suc n)) [
-        inl e ↦ rw e
-        | inr ne ↦ omega (arith, h n (omega arith) (omega arith), sum-tail m n f (omega arith) (λ i k j. h i k (omega arith)))
+      | inl e ↦ rw e
+      | inr ne ↦ omega (arith, h n (omega arith) (omega arith), sum-tail m n f (omega arith) (λ i k j. h i k (omega arith)))
     ]
+
+-- what passes one test passes another
+pub any-more :
+    (n : ℕ) (p q : ℕ → Bool) → ((i : ℕ) → i < n → p i ≡ true → q i ≡ true) → any n p ≡ true → any n q ≡ true
+any-more n p q h t = let r = any-some n p t in any-has n q (r .0) (r .1) (h (r .0) (r .1) (r .2))
+
+-- equal tests
+pub any-same : (n : ℕ) (p q : ℕ → Bool) → ((i : ℕ) → i < n → p i ≡ q i) → any n p ≡ any n q
+unfolding any
+any-same zero p q h = refl
+any-same (suc n) p q h = rw (h n (omega arith), any-same n p q (λ i l. h i (omega arith))) refl
