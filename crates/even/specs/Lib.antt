@@ -1,4 +1,5 @@
 pub mod Day
+pub mod DayOf
 pub mod Evenest
 pub mod More
 pub mod Tariff

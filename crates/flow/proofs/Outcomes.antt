@@ -1,0 +1,81 @@
+-- From the state in which rounds end to what the call promises.
+use mathlib.Core.Path.{_≡_, refl, sym, _∙_, ap}
+use mathlib.Core.Bool.{Bool, true, false, cond, _&&_}
+use mathlib.Core.Logic.{_⊎_, inl, inr}
+use Prim.Native.Nat.{ℕ, zero, suc, _+_, _*_, _^_, _≤_, _<_}
+use native.Mathlib.Omega.{arith}
+use lib.Dec.{ltb}
+use lib.ListN.{length, getD, replicate, getD-replicate, length-replicate}
+use Rattle.std.specs.shelf.Lists.{List}
+use Rattle.std.proofs.shelf.Lists.{getD-past}
+use Rattle.std.proofs.shelf.Ways.{tells}
+use Rattle.std.proofs.shelf.Tests.{cases-lt, both-ways}
+use Rattle.fraction.specs.Sum.{sum}
+use Rattle.fraction.proofs.Sums.{sum-zero}
+use Rattle.night.specs.declared.hours.Hours.{Hours}
+use Rattle.night.specs.Hours.{has}
+use Rattle.flow.specs.declared.net.Net.{Net}
+use Rattle.flow.specs.declared.net.Filled.{Filled}
+use Rattle.flow.specs.declared.net.Filled.the-variants.{Whole, Cut}
+use Rattle.flow.specs.Flow.{row, column, meets, Flow, Roomy, Closed, Reaches}
+use Rattle.flow.specs.Lent.{permits, flow, left, room, within, Sound, Steady, Empty}
+use Rattle.flow.specs.Outcome.{Ended, Settled, Outcome}
+use Rattle.flow.proofs.Cells.{cell-bare}
+use Rattle.flow.proofs.Cuts.{largest}
+
+-- the elements of a list of zeros, and past it
+pub zeros : (n s : ℕ) → getD {A = ℕ} (replicate n 0) s 0 ≡ 0
+zeros n s =
+    elim (cases-lt s n) [
+        inl l ↦ getD-replicate n s 0 0 l
+        | inr ge ↦ getD-past (replicate n 0) s 0 (rw (length-replicate {A = ℕ} n 0) ge)
+    ]
+
+-- capacities that are equal below n have equal reaches
+reaches-as :
+    {m n : ℕ} {may : ℕ → ℕ → Bool} {c c′ : ℕ → ℕ} {f : ℕ → ℕ → ℕ} {u : ℕ → Bool} →
+    ((s : ℕ) → s < n → c s ≡ c′ s) → Reaches m n may c f u → Reaches m n may c′ f u
+reaches-as e w =
+    record {
+        roomy = record { room = λ s l h. w .roomy .room s l (omega (arith, e s l)) };
+        closed = w .closed;
+        least = λ v r q s l h. w .least v (record { room = λ t lt x. r .room t lt (omega (arith, e t lt)) }) q s l h
+    }
+
+module _ {m : ℕ} {supply : List ℕ} {net : Net} (w : Empty m supply net) (work : List ℕ) where
+  empty-cell : (j s : ℕ) → j < m → flow net work j s ≡ 0
+  empty-cell j s lj = cell-bare (net .marks) work j s (w .bare j s lj)
+
+  pub empty-row : (j : ℕ) → j < m → row 96 (flow net work) j ≡ 0
+  empty-row j lj = sum-zero 96 (flow net work j) (λ s ls. empty-cell j s lj)
+
+  pub empty-column : (s : ℕ) → column m (flow net work) s ≡ 0
+  empty-column s = sum-zero m (λ j. flow net work j s) (λ j lj. empty-cell j s lj)
+
+  pub empty-sound : (may : ℕ → ℕ → Bool) → ((s : ℕ) → s < 96 → room net s < 2 ^ 64) → Sound m may net work
+  empty-sound may fits =
+      record {
+          only = λ j s lj ls h. empty-cell j s lj;
+          marks = record { some = λ j s lj h. absurd (both-ways _ (w .bare j s lj) h); low = λ j s lj h. absurd (both-ways _ (w .bare j s lj) h) };
+          fits = λ s ls. omega (arith, fits s ls, empty-column s)
+      }
+
+module _
+    {m : ℕ} {net : Net} {work : List ℕ} {net′ : Net} {work′ : List ℕ} (may : List Hours) (a c : ℕ → ℕ)
+    (rows : (j : ℕ) → j < m → left net j + row 96 (flow net work) j ≡ a j)
+    (columns : (s : ℕ) → s < 96 → room net s + column m (flow net work) s ≡ c s)
+    (v : Sound m (permits may) net′ work′) (w : Steady m net work net′ work′) where
+  settled-flow : Flow m 96 (permits may) a c (flow net′ work′)
+  settled-flow =
+      record {
+          only = v .only;
+          rows = λ j l. omega (arith, rows j l, w .rows j l);
+          columns = λ s l. omega (arith, columns s l, w .columns s l)
+      }
+
+  pub settled-outcome : (r : Filled) → Settled m may net′ work′ r → Outcome m (permits may) a c (flow net′ work′) r
+  settled-outcome Whole e = (settled-flow, λ j l. omega (arith, e j l, rows j l, w .rows j l))
+  settled-outcome (Cut u) e =
+      (largest settled-flow (reaches-as (λ s l. w .columns s l ∙ columns s l) (e .reaches))
+          (λ j l h. omega (arith, e .shipped j l h, rows j l, w .rows j l)),
+      (e .some .0, e .some .1, omega (arith, e .some .2, rows (e .some .0) (e .some .1), w .rows (e .some .0) (e .some .1))))

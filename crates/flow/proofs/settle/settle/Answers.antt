@@ -1,0 +1,12 @@
+use Rattle.flow.proofs.Ends.{ended}
+use Rattle.flow.proofs.settle.settle.Needs as need
+
+pub returns-in-End : need.returns-in-End
+returns-in-End c =
+    let seen = c .in-End .ensures tt in
+    let some = c .if-not-waits .ensures tt in
+    record {
+        settled = ended (seen .1) (seen .2) (c .rounds .inv .1) (some .0) (some .1) (some .2);
+        sound = c .rounds .inv .1;
+        steady = c .rounds .inv .2
+    }
