@@ -1,8 +1,8 @@
 -- What fractions are: bounds, lowest terms, order by cross products, and their text. Assumes nothing: these are definitions.
 use mathlib.Core.Path.{_≡_}
 use mathlib.Core.Bool.{Bool, cond, _&&_}
-use mathlib.Core.List.{List, [], _∷_, _++_}
-use Prim.Native.Nat.{ℕ, zero, suc, _*_, _%_, _^_, _≤_, _<_}
+use mathlib.Core.List.{List, _∷_, _++_}
+use Prim.Native.Nat.{ℕ, zero, suc, _*_, _%_, _^_, _≤_}
 use lib.Dec.{eqb, ltb, leb}
 use Rattle.std.specs.Written.{decimal}
 

@@ -1,3 +1,4 @@
 pub mod Sum
 pub mod Fraction
+pub mod Limits
 pub mod Range

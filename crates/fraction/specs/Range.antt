@@ -1,23 +1,14 @@
 -- The range of the numbers that a plan needs. Assumes nothing: these are definitions.
 use Prim.Native.Nat.{ℕ, _*_, _≤_, _<_}
+use Rattle.fraction.specs.Limits.{max-hours, max-tasks, max-units}
 use Rattle.fraction.specs.Sum.{sum}
 use Rattle.fraction.specs.Fraction.{num-end, den-end}
 
--- at most this many hours, tasks, and units for a task
-abbrev pub most-hours : ℕ
-most-hours = 96
-
-abbrev pub most-tasks : ℕ
-most-tasks = 200
-
-abbrev pub most-units : ℕ
-most-units = 1000000
-
--- tasks within these limits; work j: the units of task j
+-- a night within the limits; work j: the units of task j
 pub record Limited (tasks hours : ℕ) (work : ℕ → ℕ) : Type 0 where
-  pub few-tasks : tasks ≤ most-tasks
-  pub few-hours : hours ≤ most-hours
-  pub few-units : (j : ℕ) → j < tasks → work j ≤ most-units
+  pub few-tasks : tasks ≤ max-tasks
+  pub few-hours : hours ≤ max-hours
+  pub few-units : (j : ℕ) → j < tasks → work j ≤ max-units
 
 -- what a plan needs: all units over the hours is a fraction; and at most r are
 -- a task's units in parts of 1 / q, those of all tasks, and a level's numerator times a denominator or a number of hours

@@ -1,5 +1,6 @@
 // Fractions of 64-bit numbers by value, exact: lowest terms, order, text, and the range of numbers that plans need.
 mod exact;
+mod limits;
 mod order;
 mod range;
 mod reduce;
@@ -8,9 +9,9 @@ mod shown;
 pub use exact::DEN_END;
 pub use exact::Fraction;
 pub use exact::NUM_END;
-pub use range::MOST_HOURS;
-pub use range::MOST_TASKS;
-pub use range::MOST_UNITS;
+pub use limits::MAX_HOURS;
+pub use limits::MAX_TASKS;
+pub use limits::MAX_UNITS;
 pub use range::largest;
 pub use shown::FractionDisplay;
 

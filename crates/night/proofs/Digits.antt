@@ -1,21 +1,18 @@
 -- Laws of numbers as bytes.
 use mathlib.Core.Path.{_≡_, refl, sym, _∙_, ap}
-use mathlib.Core.Bool.{Bool, true, false}
 use mathlib.Core.List.{List, [], _∷_, _++_}
-use mathlib.Core.Logic.{_⊎_, inl, inr}
+use mathlib.Core.Logic.{inl, inr}
 use Prim.Native.Nat.{ℕ, zero, suc, min, _+_, _*_, _-_, _/_, _%_, _^_, _≤_, _<_}
 use native.Mathlib.Omega.{arith}
 use native.Mathlib.Nat.{pow-suc, mul-comm, pow-le-pow-right, div-div-eq-div-mul}
 use native.Mathlib.Numerals.{add-one}
 use lib.Bits.{bitAnd}
-use lib.Dec.{eqb, ltb, lit<}
-use lib.ListN.{length, getD, take, drop, length-append}
-use Rattle.std.proofs.shelf.Bits.{and-mask, div-mul-add, mod-mul-add, shr-shr, div-add-mod', mul-le}
+use lib.Dec.{lit<}
+use lib.ListN.{length, getD, take, drop}
+use Rattle.std.proofs.shelf.Bits.{and-mask, div-add-mod'}
 use Rattle.std.proofs.shelf.Lists.{drop-more, getD-take, length-take-le, append-nil, append-assoc, drop-all, take-all}
-use Rattle.std.proofs.shelf.Tests.{cases-eq, cases-lt}
-use Rattle.night.specs.Bit.{bit}
+use Rattle.std.proofs.shelf.Tests.{cases-lt}
 use Rattle.night.specs.Bytes.{little, digits}
-use Rattle.night.proofs.Bits.{bit-zero, bit-suc, bit-below}
 
 pub little-cons : (x : ℕ) (xs : List ℕ) → little (x ∷ xs) ≡ x + little xs * 256
 unfolding little
@@ -66,7 +63,7 @@ digits-more zero n = let e : n / 256 ^ 0 ≡ n = omega arith in rw e
 digits-more (suc w) n =
     let s : suc w + 1 ≡ suc (w + 1) = omega arith in
     let e : n / 256 / 256 ^ w ≡ n / 256 ^ suc w =
-        div-div-eq-div-mul n 256 (256 ^ w) ∙ ap (λ q. n / q) (mul-comm 256 (256 ^ w) ∙ sym (pow-suc 256 w)) in
+    div-div-eq-div-mul n 256 (256 ^ w) ∙ ap (λ q. n / q) (mul-comm 256 (256 ^ w) ∙ sym (pow-suc 256 w)) in
     rw (s, ← e) (ap (λ ys. n % 256 ∷ ys) (digits-more w (n / 256)))
 
 -- a byte more than k bytes still fits into 16
@@ -113,9 +110,9 @@ pub little-end :
     (b : List ℕ) (n i v : ℕ) → i ≤ 0 → n ≡ min (length b) 16 → v ≡ little (drop i (take n b)) → v ≡ little (take 16 b)
 little-end b n zero v z m e =
     elim (cases-lt (length b) 16) [
-        inl l ↦
-            let k : n ≡ length b = omega arith in
-            e ∙ ap little (ap (λ k. take k b) k ∙ take-all (length b) b (omega arith) ∙ sym (take-all 16 b (omega arith)))
-        | inr l ↦ let k : n ≡ 16 = omega arith in e ∙ ap (λ k. little (take k b)) k
+      | inl l ↦
+          let k : n ≡ length b = omega arith in
+          e ∙ ap little (ap (λ k. take k b) k ∙ take-all (length b) b (omega arith) ∙ sym (take-all 16 b (omega arith)))
+      | inr l ↦ let k : n ≡ 16 = omega arith in e ∙ ap (λ k. little (take k b)) k
     ]
 little-end b n (suc i) v z m e = absurd (omega arith)

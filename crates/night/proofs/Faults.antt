@@ -10,12 +10,12 @@ use borrow.Author.Count.{below-more}
 use Rattle.std.proofs.shelf.Tests.{cases-lt, cases-eq}
 use Rattle.night.specs.declared.task.Task.{Task}
 use Rattle.night.specs.Bit.{bit}
-use Rattle.night.specs.Format.{WellFormed, width, place, hours-in, count-in, row-in, units-in, task-in, end-in}
-use Rattle.night.specs.Limits.{max-hours, max-tasks, max-units}
+use Rattle.night.specs.Format.{width, place, hours-in, count-in, row-in, units-in, task-in, end-in}
+use Rattle.fraction.specs.Limits.{max-units}
 use Rattle.night.specs.Reading.{Headed}
-use Rattle.night.specs.Refusal.{Missing, Fault, First}
+use Rattle.night.specs.Refusal.{Fault, First}
 use Rattle.night.specs.Refusal.Fault.{hours, tasks, units, row, goes-on}
-use Rattle.night.specs.Refusal.First.{missing, fault}
+use Rattle.night.specs.Refusal.First.{fault}
 use Rattle.night.specs.Task.{Fits}
 use Rattle.night.proofs.Places.{place-mono, place-next}
 use Rattle.night.proofs.Rows.{fits-row}
@@ -37,13 +37,13 @@ not-before b n m j h l f v q (hours e p (inr g)) = absurd (omega (arith, h .hour
 not-before b n m j h l f v q (tasks e p g) = absurd (omega (arith, h .count, h .few))
 not-before b n m j h l f v q (units i e p k g) =
     elim (cases-lt i j) [
-        inl s ↦ absurd (omega (arith, f i s .0))
-        | inr s ↦ omega (arith, place-mono (width (hours-in b)) j i s)
+      | inl s ↦ absurd (omega (arith, f i s .0))
+      | inr s ↦ omega (arith, place-mono (width (hours-in b)) j i s)
     ]
 not-before b n m j h l f v q (row i e p k bad) =
     elim (cases-lt i j) [
-        inl s ↦ absurd (fits-row (hours-in b) (task-in b i) (subst (λ c. Fits c (task-in b i)) (h .hours) (f i s)) bad)
-        | inr s ↦ omega (arith, place-mono (width (hours-in b)) j i s)
+      | inl s ↦ absurd (fits-row (hours-in b) (task-in b i) (subst (λ c. Fits c (task-in b i)) (h .hours) (f i s)) bad)
+      | inr s ↦ omega (arith, place-mono (width (hours-in b)) j i s)
     ]
 not-before b n m j h l f v q (goes-on e p g) =
     omega (arith, place-mono (width (hours-in b)) j (count-in b) (omega (arith, h .count)))
@@ -57,17 +57,17 @@ not-before-row b n m j h l f u v q (hours e p (inr g)) = absurd (omega (arith, h
 not-before-row b n m j h l f u v q (tasks e p g) = absurd (omega (arith, h .count, h .few))
 not-before-row b n m j h l f u v q (units i e p k g) =
     elim (cases-lt j i) [
-        inl s ↦ omega (arith, place-next (width (hours-in b)) j i s)
-        | inr s ↦
-            elim (cases-eq i j) [
-                inl same ↦ absurd (omega (arith, ap (units-in b) same))
-                | inr other ↦ absurd (omega (arith, f i (omega arith) .0))
-            ]
+      | inl s ↦ omega (arith, place-next (width (hours-in b)) j i s)
+      | inr s ↦
+          elim (cases-eq i j) [
+            | inl same ↦ absurd (omega (arith, ap (units-in b) same))
+            | inr other ↦ absurd (omega (arith, f i (omega arith) .0))
+          ]
     ]
 not-before-row b n m j h l f u v q (row i e p k bad) =
     elim (cases-lt i j) [
-        inl s ↦ absurd (fits-row (hours-in b) (task-in b i) (subst (λ c. Fits c (task-in b i)) (h .hours) (f i s)) bad)
-        | inr s ↦ omega (arith, place-mono (width (hours-in b)) j i s)
+      | inl s ↦ absurd (fits-row (hours-in b) (task-in b i) (subst (λ c. Fits c (task-in b i)) (h .hours) (f i s)) bad)
+      | inr s ↦ omega (arith, place-mono (width (hours-in b)) j i s)
     ]
 not-before-row b n m j h l f u v q (goes-on e p g) =
     omega (arith, place-next (width (hours-in b)) j (count-in b) (omega (arith, h .count)))

@@ -6,3 +6,6 @@ pub mod Places
 pub mod Faults
 pub mod Tasks
 pub mod Written
+pub mod RoundTrip
+pub mod RowBits
+pub mod OneRefusal

@@ -1,7 +1,7 @@
 -- Laws of the places of tasks, and of numbers at places.
-use mathlib.Core.Path.{_≡_, refl, sym, _∙_, ap}
-use mathlib.Core.List.{List, [], _∷_, _++_}
-use Prim.Native.Nat.{ℕ, zero, suc, _+_, _*_, _-_, _/_, _^_, _≤_, _<_}
+use mathlib.Core.Path.{_≡_, _∙_, ap}
+use mathlib.Core.List.{List}
+use Prim.Native.Nat.{ℕ, _+_, _-_, _^_, _≤_, _<_}
 use native.Mathlib.Omega.{arith}
 use native.Mathlib.Nat.{mul-le-mul-right}
 use lib.ListN.{length, getD, take, drop}
@@ -9,7 +9,7 @@ use Rattle.std.proofs.shelf.Lists.{take-all, length-take-le, length-drop, getD-
 use Rattle.night.specs.declared.hours.Hours.{Hours}
 use Rattle.night.specs.declared.task.Task.{Task}
 use Rattle.night.specs.Bytes.{little}
-use Rattle.night.specs.Format.{width, place, number-at, hours-in, count-in, end-in, units-in, row-in, task-in}
+use Rattle.night.specs.Format.{width, place, number-at, hours-in, end-in, units-in, row-in, task-in}
 use Rattle.night.specs.Reading.{Headed}
 use Rattle.night.proofs.Digits.{little-lt}
 
@@ -62,11 +62,11 @@ task-read b n m j at end u v h s l p e x y z =
     let rest : end - (at + 4) ≡ width n = omega arith in
     let q : at ≡ place (width (hours-in b)) j = p ∙ ap (λ k. place (width k) j) (s .hours) in
     let units : u ≡ units-in b j =
-        x ∙ ap (λ k. little (take 16 (take k (drop at b)))) four ∙ part-number b at 4 (omega arith) (omega arith)
-        ∙ ap (λ k. number-at b k 4) q in
+    x ∙ ap (λ k. little (take 16 (take k (drop at b)))) four ∙ part-number b at 4 (omega arith) (omega arith)
+    ∙ ap (λ k. number-at b k 4) q in
     let row : v ≡ row-in b j =
-        y ∙ ap (λ k. little (take 16 (take k (drop (at + 4) b)))) rest
-        ∙ part-number b (at + 4) (width n) (omega arith) (omega arith)
-        ∙ ap (λ k. number-at b (k + 4) (width n)) q
-        ∙ ap (λ k. number-at b (place (width (hours-in b)) j + 4) (width k)) (s .hours) in
+    y ∙ ap (λ k. little (take 16 (take k (drop (at + 4) b)))) rest
+    ∙ part-number b (at + 4) (width n) (omega arith) (omega arith)
+    ∙ ap (λ k. number-at b (k + 4) (width n)) q
+    ∙ ap (λ k. number-at b (place (width (hours-in b)) j + 4) (width k)) (s .hours) in
     task-made u v (units-in b j) (row-in b j) h units z row

@@ -1,13 +1,13 @@
 -- The bytes of a night: hours (one), tasks (one); for each task its units (four) and a row of bits, one for each hour, in whole bytes. Low bytes and low bits come first.
 -- Assumes nothing: these are definitions.
 use mathlib.Core.Path.{_≡_}
-use mathlib.Core.List.{List, [], _∷_, _++_}
+use mathlib.Core.List.{List, _∷_, _++_}
 use Prim.Native.Nat.{ℕ, _+_, _*_, _/_, _≤_, _<_}
 use lib.ListN.{length, getD, take, drop}
 use Rattle.std.specs.shelf.Lists.{joined}
 use Rattle.night.specs.declared.task.Task.{Task}
 use Rattle.night.specs.Bytes.{little, digits}
-use Rattle.night.specs.Limits.{max-hours, max-tasks}
+use Rattle.fraction.specs.Limits.{max-hours, max-tasks}
 use Rattle.night.specs.Task.{blank-task, Fits}
 
 -- how many bytes a row of n bits takes

@@ -1,9 +1,9 @@
 pub mod Bit
 pub mod Hours
-pub mod Limits
 pub mod Bytes
 pub mod Task
 pub mod Format
 pub mod Refusal
 pub mod Night
 pub mod Reading
+pub mod Theorems

@@ -3,7 +3,7 @@ use mathlib.Core.Path.{_≡_}
 use mathlib.Core.List.{List}
 use Prim.Native.Nat.{ℕ, _≤_, _<_}
 use lib.ListN.{length}
-use Rattle.night.specs.Limits.{max-hours, max-tasks}
+use Rattle.fraction.specs.Limits.{max-hours, max-tasks}
 use Rattle.night.specs.Format.{hours-in, count-in, end-in}
 
 -- the bytes b begin with n hours and m tasks, both in range, and none are missing

@@ -10,7 +10,7 @@ use Rattle.std.specs.Orderings.{When}
 use Rattle.night.specs.declared.refusal.Refusal.{Refusal}
 use Rattle.night.specs.declared.refusal.Refusal.the-variants.{Length, HoursOutOfRange, TooManyTasks, TooManyUnits, BadRow, NoMemory}
 use Rattle.night.specs.Bit.{bit}
-use Rattle.night.specs.Limits.{max-hours, max-tasks, max-units}
+use Rattle.fraction.specs.Limits.{max-hours, max-tasks, max-units}
 use Rattle.night.specs.Format.{WellFormed, width, place, hours-in, count-in, row-in, units-in, end-in}
 
 -- the number and the place of a refusal
@@ -33,8 +33,8 @@ pub data Fault (b : List ℕ) (n p : ℕ) : Type 0 where
   tasks : n ≡ 2 → p ≡ 1 → max-tasks < count-in b → Fault b n p
   units : (j : ℕ) → n ≡ 3 → p ≡ place (width (hours-in b)) j → j < count-in b → max-units < units-in b j → Fault b n p
   row :
-    (j : ℕ) → n ≡ 4 → p ≡ place (width (hours-in b)) j + 4 → j < count-in b →
-    (row-in b j ≡ 0) ⊎ ((k : ℕ) × (hours-in b ≤ k) × (bit (row-in b j) k ≡ true)) → Fault b n p
+      (j : ℕ) → n ≡ 4 → p ≡ place (width (hours-in b)) j + 4 → j < count-in b →
+      (row-in b j ≡ 0) ⊎ ((k : ℕ) × (hours-in b ≤ k) × (bit (row-in b j) k ≡ true)) → Fault b n p
   goes-on : n ≡ 1 → p ≡ end-in b → end-in b < length b → Fault b n p
 
 -- the refusal that bytes get: where bytes are missing, 1 at their length; else the first fault

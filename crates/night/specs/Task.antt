@@ -7,7 +7,7 @@ use lib.ListN.{length, getD}
 use Rattle.fraction.specs.Sum.{any}
 use Rattle.night.specs.declared.task.Task.{Task}
 use Rattle.night.specs.Hours.{has, blank}
-use Rattle.night.specs.Limits.{max-hours, max-tasks, max-units}
+use Rattle.fraction.specs.Limits.{max-hours, max-tasks, max-units}
 
 -- what stands where a list of tasks has ended
 abbrev pub blank-task : Task

@@ -138,7 +138,7 @@ impl Hours {
     pub fn lowest(self) -> Option<usize>
         ensures { λ r. ⌜ Cases r (any 128 (has self) ≡ false) (λ i. Lowest self i) ⌝ }
     {
-        if self.bits == 0 {
+        if self.is_empty() {
             return None;
         }
         Some(self.bits.trailing_zeros() as usize)

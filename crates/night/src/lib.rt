@@ -5,5 +5,10 @@ pub mod limits;
 pub mod night;
 pub mod refusal;
 pub mod task;
+pub mod theorems;
+
 pub use night::reader::read;
 pub use night::writer::write;
+
+#[cfg(test)]
+mod tests;

@@ -2,7 +2,7 @@
 use crate::task::Task;
 ghost use lib.ListN.{length, getD};
 ghost use Prim.Native.Nat.{ℕ, _<_, _≤_};
-ghost use Rattle.night.specs.Limits.{max-hours, max-tasks};
+ghost use Rattle.fraction.specs.Limits.{max-hours, max-tasks};
 ghost use Rattle.night.specs.Task.{blank-task, Fits};
 ghost use Rattle.std.specs.Of.Vec.{vec-items};
 

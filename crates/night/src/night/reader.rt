@@ -10,15 +10,13 @@ use crate::refusal::RefusalFromAllocError;
 use crate::task::Task;
 use std::alloc::AllocError;
 use std::alloc::Global;
-ghost use lib.ListN.{length, getD};
 ghost use mathlib.Core.Path.{_≡_};
-ghost use Prim.Native.Nat.{ℕ, _+_, _≤_, _<_};
+ghost use Prim.Native.Nat.{ℕ, _<_};
 ghost use Rattle.night.specs.Format.{width, place, task-in, WellFormed, Says};
-ghost use Rattle.night.specs.Limits.{max-hours, max-tasks};
 ghost use Rattle.night.specs.Night.{hours-of, tasks-of};
 ghost use Rattle.night.specs.Reading.{Headed};
 ghost use Rattle.night.specs.Refusal.{Refuses};
-ghost use Rattle.night.specs.Task.{blank-task, Fits};
+ghost use Rattle.night.specs.Task.{Fits};
 ghost use Rattle.std.specs.Of.Vec.{vec-items};
 ghost use Rattle.std.specs.Results.{Cases};
 ghost use Rattle.std.specs.Vec.{made};
@@ -64,7 +62,10 @@ fn read_task(bytes: &[u8], hours: usize, count: usize, j: usize) -> Task
     let end = task_place(hours, j + 1);
     let units = read_little(&bytes[at..row]) as u32;
     let bits = read_little(&bytes[row..end]);
-    Task { units, hours: Hours::from_bits(bits) }
+    Task {
+        units,
+        hours: Hours::from_bits(bits),
+    }
 }
 
 // Refuses the first task that does not fit.
@@ -85,7 +86,12 @@ fn check_tasks(bytes: &[u8], hours: usize, count: usize) -> Result<(), Refusal>
 }
 
 // All tasks, in order.
-fn read_tasks(heap: Global, bytes: &[u8], hours: usize, count: usize) -> Result<Vec<Task>, AllocError>
+fn read_tasks(
+    heap: Global,
+    bytes: &[u8],
+    hours: usize,
+    count: usize,
+) -> Result<Vec<Task>, AllocError>
     requires { ⌜ Headed (now bytes) hours count ⌝ }
     ensures { λ r. ⌜ made r (λ v. Says (now (bytes .entry)) hours (vec-items v)) ⌝ }
 {

@@ -1,5 +1,3 @@
-use mathlib.Core.Path.{_≡_, refl, sym, _∙_, ap}
-use Prim.Native.Nat.{_/_, _^_}
 use native.Mathlib.Omega.{arith}
 use borrow.Author.Needs.{needs}
 use Rattle.std.specs.Of.Vec.{vec-items}
@@ -17,7 +15,8 @@ returns-in-Break-push c =
     rw (p .1) (c .loop-i .-i, omega arith, search needs)
 
 pub loop-i-again : need.loop-i-again
-loop-i-again c =
-    (digits-push (vec-items (c .args .out .now)) _ (c .args .n) (c .loop-i .-i) (c .loop-i .rest) (c .loop-i .inv .1)
-    (pushed _ (c .loop-i .inv .0) (c .in-Continue-push .was tt) (c .push .ensures .items)),
-    rw (c .loop-i .inv .1) (shift-byte (c .args .n) (c .loop-i .-i)))
+loop-i-again c = (
+  digits-push (vec-items (c .args .out .now)) _ (c .args .n) (c .loop-i .-i) (c .loop-i .rest) (c .loop-i .inv .1)
+      (pushed _ (c .loop-i .inv .0) (c .in-Continue-push .was tt) (c .push .ensures .items)),
+  rw (c .loop-i .inv .1) (shift-byte (c .args .n) (c .loop-i .-i)),
+)

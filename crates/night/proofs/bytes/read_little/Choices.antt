@@ -1,6 +1,6 @@
 use mathlib.Core.Path.{_≡_}
-use Prim.Native.Nat.{_-_, _^_, _<_, _≤_}
-use lib.ListN.{length, take, drop}
+use Prim.Native.Nat.{_-_, _^_, _<_}
+use lib.ListN.{take, drop}
 use Rattle.night.specs.Bytes.{little}
 use Rattle.night.proofs.bytes.read_little.Given as given
 

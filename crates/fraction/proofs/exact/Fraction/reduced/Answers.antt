@@ -1,7 +1,6 @@
-use Prim.Native.Nat.{ℕ, _<_}
+use Prim.Native.Nat.{_<_}
 use native.Mathlib.Omega.{arith}
 use Rattle.std.proofs.shelf.Ways.{tells}
-use Rattle.fraction.specs.Fraction.{Reduced}
 use Rattle.fraction.proofs.Fractions.{reduced-by, reduced-some}
 use Rattle.fraction.proofs.exact.Fraction.reduced.Needs as need
 

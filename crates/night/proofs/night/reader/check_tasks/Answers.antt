@@ -1,10 +1,6 @@
-use mathlib.Core.Path.{_≡_, refl, sym, _∙_, ap, subst}
+use mathlib.Core.Path.{ap}
 use Prim.Native.Nat.{_+_}
 use native.Mathlib.Omega.{arith}
-use borrow.Author.Count.{below-more}
-use Rattle.night.specs.declared.task.Task.{Task}
-use Rattle.night.specs.Format.{task-in}
-use Rattle.night.specs.Task.{Fits}
 use Rattle.night.proofs.Rows.{row-bad}
 use Rattle.night.proofs.Faults.{before-more, first-units, first-row}
 use Rattle.std.proofs.shelf.Ways.{not-from-decides}

@@ -1,4 +1,3 @@
-use native.Mathlib.Omega.{arith}
 use Rattle.night.proofs.Faults.{first-past}
 use Rattle.night.proofs.night.reader.read.Needs as need
 

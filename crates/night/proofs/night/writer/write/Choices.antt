@@ -3,7 +3,7 @@ use mathlib.Core.Path.{_≡_}
 use lib.ListN.{length, take}
 use Rattle.std.specs.Of.Vec.{vec-items}
 use Rattle.std.specs.shelf.Lists.{joined}
-use Rattle.night.specs.Format.{width, task-bytes}
+use Rattle.night.specs.Format.{task-bytes}
 use Rattle.night.proofs.night.writer.write.Given as given
 
 abbrev pub Inv-loop-task : given.InvT-loop-task

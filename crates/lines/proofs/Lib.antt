@@ -1,0 +1,2 @@
+pub mod Concats
+pub mod Texts
