@@ -12,7 +12,8 @@ use Rattle.night.specs.declared.task.Task.{Task}
 use Rattle.fraction.proofs.Sums.{sum-bound}
 use Rattle.fraction.specs.Limits.{max-units}
 use Rattle.night.specs.Task.{blank-task, units}
-use Rattle.night.specs.Theorems.{Small}
+use Rattle.night.proofs.Rows.{has-within}
+use Rattle.night.specs.Theorems.{Small, Within}
 
 -- a task more, each as f says
 pub push-each :
@@ -34,3 +35,7 @@ push-each xs ys x f j e l h t = (
 pub small : Small
 small n ts g =
     omega (arith, sum-bound (length ts) (units ts) max-units (λ j l. g .each j l .0), mul-le-mul-right max-units (g .few))
+
+-- the hours of each task
+pub within : Within
+within n ts g j k l m = has-within (getD ts j blank-task .hours) n k (g .each j l .2) m

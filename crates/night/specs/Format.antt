@@ -1,4 +1,5 @@
--- The bytes of a night: hours (one), tasks (one); for each task its units (four) and a row of bits, one for each hour, in whole bytes. Low bytes and low bits come first.
+-- The bytes of a night: hours (one), tasks (one); for each task its units (four) and a row of bits, one for each hour,
+-- in whole bytes. Low bytes and low bits come first.
 -- Assumes nothing: these are definitions.
 use mathlib.Core.Path.{_≡_}
 use mathlib.Core.List.{List, _∷_, _++_}
@@ -18,10 +19,11 @@ width n = (n + 7) / 8
 abbrev pub place : ℕ → ℕ → ℕ
 place w j = 2 + j * (4 + w)
 
--- what the bytes b say: the hours, the number of tasks, task j
+-- the hours that the bytes b say
 abbrev pub hours-in : List ℕ → ℕ
 hours-in b = getD b 0 0
 
+-- the number of tasks
 abbrev pub count-in : List ℕ → ℕ
 count-in b = getD b 1 0
 
@@ -33,9 +35,11 @@ number-at b p w = little (take w (drop p b))
 abbrev pub row-in : List ℕ → ℕ → ℕ
 row-in b j = number-at b (place (width (hours-in b)) j + 4) (width (hours-in b))
 
+-- the units of task j
 abbrev pub units-in : List ℕ → ℕ → ℕ
 units-in b j = number-at b (place (width (hours-in b)) j) 4
 
+-- task j
 abbrev pub task-in : List ℕ → ℕ → Task
 task-in b j = record { units = units-in b j; hours = record { bits = row-in b j } }
 
@@ -57,9 +61,10 @@ pub record Says (b : List ℕ) (n : ℕ) (ts : List Task) : Type 0 where
   pub count : length ts ≡ count-in b
   pub tasks : (j : ℕ) → j < length ts → getD ts j blank-task ≡ task-in b j
 
--- the bytes that a night of n hours with the tasks ts is written as
+-- the bytes that a task is written as, where a row takes w of them
 abbrev pub task-bytes : ℕ → Task → List ℕ
 task-bytes w t = digits 4 (t .units) ++ digits w (t .hours .bits)
 
+-- the bytes that a night of n hours with the tasks ts is written as
 abbrev pub night-bytes : ℕ → List Task → List ℕ
 night-bytes n ts = n ∷ length ts ∷ joined (task-bytes (width n)) ts

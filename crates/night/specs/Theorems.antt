@@ -1,5 +1,6 @@
 -- Theorems about nights and their bytes, over the definitions that the contracts cite.
 use mathlib.Core.Path.{_≡_}
+use mathlib.Core.Bool.{true}
 use mathlib.Core.List.{List}
 use Prim.Native.Nat.{ℕ, _+_, _*_, _/_, _%_, _^_, _<_}
 use lib.ListN.{length, getD}
@@ -10,7 +11,7 @@ use Rattle.night.specs.Format.{WellFormed, Says, width, place, hours-in, count
 use Rattle.night.specs.Hours.{has}
 use Rattle.fraction.specs.Limits.{max-hours}
 use Rattle.night.specs.Refusal.{First}
-use Rattle.night.specs.Task.{Sound, units}
+use Rattle.night.specs.Task.{Sound, may, units}
 
 -- each element is a byte
 abbrev pub Bytes : List ℕ → Type 0
@@ -33,6 +34,10 @@ abbrev pub Row-bits : Type 0
 Row-bits =
     (b : List ℕ) → Bytes b → WellFormed b → (j i : ℕ) → j < count-in b → i < hours-in b →
     has (task-in b j .hours) i ≡ bit (getD b (place (width (hours-in b)) j + 4 + i / 8) 0) (i % 8)
+
+-- the hours of a task of a night are hours of the night
+abbrev pub Within : Type 0
+Within = (n : ℕ) (ts : List Task) → Sound n ts → (j k : ℕ) → j < length ts → may ts j k ≡ true → k < n
 
 -- bytes have at most one first refusal, and well-formed ones have none
 abbrev pub One-refusal : Type 0

@@ -1,5 +1,5 @@
 // Theorems about nights and their bytes: each function promises one, and does nothing.
-ghost use Rattle.night.specs.Theorems.{Reads-back, Writes-back, Row-bits, One-refusal, Small};
+ghost use Rattle.night.specs.Theorems.{Reads-back, Writes-back, Row-bits, Within, One-refusal, Small};
 
 // Reading the bytes of a night gives the night back.
 pub fn reads_back()
@@ -14,6 +14,11 @@ pub fn writes_back()
 // Bit i of a row is hour i.
 pub fn row_bits()
     ensures { λ _. ⌜ Row-bits ⌝ }
+{}
+
+// The hours of a task of a night are hours of the night.
+pub fn within()
+    ensures { λ _. ⌜ Within ⌝ }
 {}
 
 // Bytes that are no night have one refusal.
