@@ -1,0 +1,4 @@
+pub mod Rows
+pub mod Growth
+pub mod Soundness
+pub mod Applied

@@ -1,0 +1,6 @@
+// Changes of a night before it begins.
+pub mod kinds;
+pub mod refusal;
+pub mod row;
+#[cfg(test)]
+mod tests;

@@ -1,0 +1,16 @@
+pub mod Anys
+pub mod Gather
+pub mod Crews
+pub mod Ships
+pub mod Bounds
+pub mod Cuts
+pub mod Fractions
+pub mod Stack
+pub mod Steps
+pub mod Amounts
+pub mod Begin
+pub mod States
+pub mod Firsts
+pub mod Solved
+pub mod Changes
+pub mod Written

@@ -1,0 +1,13 @@
+pub mod Bounds
+pub mod Cut
+pub mod Stack
+pub mod Parts
+pub mod Crew
+pub mod Gathered
+pub mod Ship
+pub mod Row
+pub mod Change
+pub mod Walk
+pub mod Load
+pub mod Short
+pub mod Levels
