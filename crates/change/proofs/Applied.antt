@@ -31,11 +31,13 @@ module _ (n : Night) (cs : List Change) (can : All-can (hours-of n) (tasks-of n)
   pub changed : (m : Night) → hours-of m ≡ hours-of n → tasks-of m ≡ after-row (tasks-of n) cs → Changed n cs m
   changed m span tasks =
       let same : day-of m ≡ day (hours-of n) (after-row (tasks-of n) cs) =
-          ap (λ h. day h (tasks-of m)) span ∙ ap (λ (ts : List Task). day (hours-of n) ts) tasks in
+      ap (λ h. day h (tasks-of m)) span ∙ ap (λ (ts : List Task). day (hours-of n) ts) tasks in
       record {
-          can = can; span = span; tasks = tasks;
-          adds = λ a. subst (λ (y : Day). No-heavier (day-of n) y) (sym same) (heavier (row-adds (hours-of n) (tasks-of n) cs can a));
-          takes = λ a.
-              subst (λ (y : Day). No-heavier y (day-of n)) (sym same)
-              (heavier (row-takes (hours-of n) (tasks-of n) cs can a .1))
+        can = can;
+        span = span;
+        tasks = tasks;
+        adds = λ a. subst (λ (y : Day). No-heavier (day-of n) y) (sym same) (heavier (row-adds (hours-of n) (tasks-of n) cs can a));
+        takes = λ a.
+            subst (λ (y : Day). No-heavier y (day-of n)) (sym same)
+            (heavier (row-takes (hours-of n) (tasks-of n) cs can a .1));
       }

@@ -28,18 +28,19 @@ use Rattle.change.specs.Growth.{Adds, Takes, Only-adds, Only-takes}
 pub within-trans : {y w v : Day} {f g : ℕ → ℕ} → Within y w f → Within w v g → Within y v (λ j. g (f j))
 within-trans {y} {w} {v} {f} {g} p q =
     record {
-        span = p .span ∙ q .span; there = λ j l. q .there (f j) (p .there j l);
-        apart = λ i j l k e.
-            elim (cases-order (f i) (f j)) [
-                inl same ↦ p .apart i j l k same
-                | inr other ↦
-                    elim other [
-                        inl lt ↦ q .apart (f i) (f j) lt (p .there j k) e
-                        | inr gt ↦ q .apart (f j) (f i) gt (p .there i (omega arith)) (sym e)
-                    ]
-            ];
-        units = λ j l. omega (arith, p .units j l, q .units (f j) (p .there j l));
-        allowed = λ j s l k. p .allowed j s l k ∙ q .allowed (f j) s (p .there j l) (rw (p .span) at k)
+      span = p .span ∙ q .span;
+      there = λ j l. q .there (f j) (p .there j l);
+      apart = λ i j l k e.
+          elim (cases-order (f i) (f j)) [
+            | inl same ↦ p .apart i j l k same
+            | inr other ↦
+                elim other [
+                  | inl lt ↦ q .apart (f i) (f j) lt (p .there j k) e
+                  | inr gt ↦ q .apart (f j) (f i) gt (p .there i (omega arith)) (sym e)
+                ]
+          ];
+      units = λ j l. omega (arith, p .units j l, q .units (f j) (p .there j l));
+      allowed = λ j s l k. p .allowed j s l k ∙ q .allowed (f j) s (p .there j l) (rw (p .span) at k);
     }
 
 pub within-same : (y : Day) → Within y y (λ j. j)
@@ -50,35 +51,39 @@ within-same y =
 pub adds-within : (n : ℕ) (ts : List Task) (c : Change) → Possible n ts c → Adds c → Within (day n ts) (day n (after ts c)) (λ j. j)
 adds-within n ts (Comes t) p a =
     record {
-        span = refl; there = λ j l. simp length-append (omega arith); apart = λ i j l k e. omega arith;
-        units = λ j l. omega (arith, ap (λ (u : Task). u .units) (getD-append-left ts (t ∷ []) blank-task j l));
-        allowed = λ j s l k. ap (λ (u : Task). may (u ∷ []) 0 s) (sym (getD-append-left ts (t ∷ []) blank-task j l))
+      span = refl;
+      there = λ j l. simp length-append (omega arith);
+      apart = λ i j l k e. omega arith;
+      units = λ j l. omega (arith, ap (λ (u : Task). u .units) (getD-append-left ts (t ∷ []) blank-task j l));
+      allowed = λ j s l k. ap (λ (u : Task). may (u ∷ []) 0 s) (sym (getD-append-left ts (t ∷ []) blank-task j l));
     }
 adds-within n ts (Goes j) p a = absurd a
 adds-within n ts (More i u) p a =
     let raised : Task = record { units = units ts i + u; hours = getD ts i blank-task .hours } in
     record {
-        span = refl; there = λ j l. simp length-set (omega arith); apart = λ i j l k e. omega arith;
-        units = λ j l.
-            elim (cases-eq j i) [
-                inl e ↦ rw e (omega (arith, ap (λ (v : Task). v .units) (getD-set-same ts i raised blank-task (p .0))))
-                | inr ne ↦ omega (arith, ap (λ (v : Task). v .units) (getD-set-other ts i j raised blank-task ne))
-            ];
-        allowed = λ j s l k.
-            elim (cases-eq j i) [
-                inl e ↦ rw e (ap (λ (v : Task). may (v ∷ []) 0 s) (sym (getD-set-same ts i raised blank-task (p .0))))
-                | inr ne ↦ ap (λ (v : Task). may (v ∷ []) 0 s) (sym (getD-set-other ts i j raised blank-task ne))
-            ]
+      span = refl;
+      there = λ j l. simp length-set (omega arith);
+      apart = λ i j l k e. omega arith;
+      units = λ j l.
+          elim (cases-eq j i) [
+            | inl e ↦ rw e (omega (arith, ap (λ (v : Task). v .units) (getD-set-same ts i raised blank-task (p .0))))
+            | inr ne ↦ omega (arith, ap (λ (v : Task). v .units) (getD-set-other ts i j raised blank-task ne))
+          ];
+      allowed = λ j s l k.
+          elim (cases-eq j i) [
+            | inl e ↦ rw e (ap (λ (v : Task). may (v ∷ []) 0 s) (sym (getD-set-same ts i raised blank-task (p .0))))
+            | inr ne ↦ ap (λ (v : Task). may (v ∷ []) 0 s) (sym (getD-set-other ts i j raised blank-task ne))
+          ];
     }
 
 -- a task that is left, where it was before task i went
 skipped : (ts : List Task) (i j : ℕ) → i < length ts → getD (removed ts i) j blank-task ≡ getD ts (skip i j) blank-task
 skipped ts i j l =
     elim (cases-lt j i) [
-        inl lt ↦ getD-removed-below ts i blank-task j lt l ∙ ap (λ b. getD ts (cond b j (suc j)) blank-task) (sym (lt-ltb j i lt))
-        | inr ge ↦
-            getD-removed-above ts i blank-task j ge l
-            ∙ (ap (λ k. getD ts k blank-task) (add-one j) ∙ ap (λ b. getD ts (cond b j (suc j)) blank-task) (sym (le-ltb j i ge)))
+      | inl lt ↦ getD-removed-below ts i blank-task j lt l ∙ ap (λ b. getD ts (cond b j (suc j)) blank-task) (sym (lt-ltb j i lt))
+      | inr ge ↦
+          getD-removed-above ts i blank-task j ge l
+          ∙ (ap (λ k. getD ts k blank-task) (add-one j) ∙ ap (λ b. getD ts (cond b j (suc j)) blank-task) (sym (le-ltb j i ge)))
     ]
 
 -- the tasks after a change that takes away, within those before it
@@ -87,12 +92,14 @@ pub takes-within :
 takes-within n ts (Comes t) p a = absurd a
 takes-within n ts (Goes i) p a =
     let long = length-removed ts i p in (
-        skip i,
-        record {
-            span = refl; there = λ j l. grind (arith, tells); apart = λ h j l k e. grind (arith, tells);
-            units = λ j l. omega (arith, ap (λ (v : Task). v .units) (skipped ts i j p));
-            allowed = λ j s l k. ap (λ (v : Task). may (v ∷ []) 0 s) (skipped ts i j p)
-        }
+      skip i,
+      record {
+        span = refl;
+        there = λ j l. grind (arith, tells);
+        apart = λ h j l k e. grind (arith, tells);
+        units = λ j l. omega (arith, ap (λ (v : Task). v .units) (skipped ts i j p));
+        allowed = λ j s l k. ap (λ (v : Task). may (v ∷ []) 0 s) (skipped ts i j p);
+      },
     )
 takes-within n ts (More i u) p a = absurd a
 

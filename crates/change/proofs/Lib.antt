@@ -2,3 +2,4 @@ pub mod Rows
 pub mod Growth
 pub mod Soundness
 pub mod Applied
+pub mod Evenings

@@ -25,8 +25,8 @@ module _ {n : ℕ} {ts us : List Task} {cs : List Change} {i : ℕ} (m : Made n 
   pub made-more : (vs : List Task) → Tried n us (getD cs i d) vs true → Made n ts cs (i + 1) vs
   made-more vs t =
       record {
-          can = λ k lt. elim (cases-eq k i) [ inl e ↦ rw e (turn true vs t .0) | inr ne ↦ m .can k (omega arith) ];
-          tasks = turn true vs t .1 ∙ sym (folded-more after ts cs i (Goes 0) l)
+        can = λ k lt. elim (cases-eq k i) [ inl e ↦ rw e (turn true vs t .0) | inr ne ↦ m .can k (omega arith) ];
+        tasks = turn true vs t .1 ∙ sym (folded-more after ts cs i (Goes 0) l);
       }
 
   -- or it can't be

@@ -23,35 +23,41 @@ pub after-sound : (n : ℕ) (ts : List Task) (c : Change) → Sound n ts → Pos
 after-sound n ts (Comes t) s p =
     let long = length-append ts (t ∷ []) in
     record {
-        some = s .some; short = s .short; few = omega arith;
-        each = λ j l.
-            elim (cases-eq j (length ts)) [
-                inl e ↦ fits-like n (getD-push ts t blank-task j (sym e)) (p .1)
-                | inr ne ↦ (let lt : j < length ts = omega arith in fits-like n (getD-append-left ts (t ∷ []) blank-task j lt) (s .each j lt))
-            ]
+      some = s .some;
+      short = s .short;
+      few = omega arith;
+      each = λ j l.
+          elim (cases-eq j (length ts)) [
+            | inl e ↦ fits-like n (getD-push ts t blank-task j (sym e)) (p .1)
+            | inr ne ↦ (let lt : j < length ts = omega arith in fits-like n (getD-append-left ts (t ∷ []) blank-task j lt) (s .each j lt))
+          ];
     }
 after-sound n ts (Goes i) s p =
     let long = length-removed ts i p in
     record {
-        some = s .some; short = s .short; few = omega (arith, s .few);
-        each = λ j l.
-            elim (cases-lt j i) [
-                inl lt ↦ fits-like n (getD-removed-below ts i blank-task j lt p) (s .each j (omega arith))
-                | inr ge ↦ fits-like n (getD-removed-above ts i blank-task j ge p) (s .each (j + 1) (omega arith))
-            ]
+      some = s .some;
+      short = s .short;
+      few = omega (arith, s .few);
+      each = λ j l.
+          elim (cases-lt j i) [
+            | inl lt ↦ fits-like n (getD-removed-below ts i blank-task j lt p) (s .each j (omega arith))
+            | inr ge ↦ fits-like n (getD-removed-above ts i blank-task j ge p) (s .each (j + 1) (omega arith))
+          ];
     }
 after-sound n ts (More i u) s p =
     let raised : Task = record { units = units ts i + u; hours = getD ts i blank-task .hours } in
     let long = length-set ts i raised in
     let f = s .each i (p .0) in
     record {
-        some = s .some; short = s .short; few = omega (arith, s .few);
-        each = λ j l.
-            elim (cases-eq j i) [
-                inl e ↦ fits-like n (ap (λ k. getD (set ts i raised) k blank-task) e ∙ getD-set-same ts i raised blank-task (p .0))
-                    (p .1, f .1, f .2)
-                | inr ne ↦ fits-like n (getD-set-other ts i j raised blank-task ne) (s .each j (omega arith))
-            ]
+      some = s .some;
+      short = s .short;
+      few = omega (arith, s .few);
+      each = λ j l.
+          elim (cases-eq j i) [
+            | inl e ↦ fits-like n (ap (λ k. getD (set ts i raised) k blank-task) e ∙ getD-set-same ts i raised blank-task (p .0))
+                (p .1, f .1, f .2)
+            | inr ne ↦ fits-like n (getD-set-other ts i j raised blank-task ne) (s .each j (omega arith))
+          ];
     }
 
 pub row-sound : (n : ℕ) (ts : List Task) (cs : List Change) → Sound n ts → All-can n ts cs → Sound n (after-row ts cs)

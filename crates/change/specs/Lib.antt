@@ -1,3 +1,4 @@
 pub mod Row
 pub mod Growth
 pub mod Changed
+pub mod Evening

@@ -1,4 +1,5 @@
 // Changes of a night before it begins.
+pub mod evening;
 pub mod kinds;
 pub mod refusal;
 pub mod row;

@@ -54,8 +54,14 @@ fn rows_taken(rt: LibcRuntime) -> Result<(), Fail> {
     let heap = rt.alloc();
     let comes = Change::Comes(task(7, Hours::only(1)));
     check_eq(outcome(heap, 3, &[comes])?.as_slice(), &[5, 1, 1, 7])?;
-    check_eq(outcome(heap, 3, &[Change::Goes(0), Change::More(0, 4)])?.as_slice(), &[5, 1])?;
-    check_eq(outcome(heap, 1, &[Change::More(0, 999_995)])?.as_slice(), &[1_000_000])?;
+    check_eq(
+        outcome(heap, 3, &[Change::Goes(0), Change::More(0, 4)])?.as_slice(),
+        &[5, 1],
+    )?;
+    check_eq(
+        outcome(heap, 1, &[Change::More(0, 999_995)])?.as_slice(),
+        &[1_000_000],
+    )?;
     check_eq(outcome(heap, 200, &[Change::Goes(199), comes])?.len(), 200)?;
     check_eq(outcome(heap, 1, &[Change::Goes(0)])?.as_slice(), &[])
 }
@@ -68,8 +74,20 @@ fn rows_refused(rt: LibcRuntime) -> Result<(), Fail> {
     let never = Change::Comes(task(7, Hours::none()));
     check_eq(outcome(heap, 200, &[comes])?.as_slice(), &[999, 0])?;
     check_eq(outcome(heap, 3, &[comes, late])?.as_slice(), &[999, 1])?;
-    check_eq(outcome(heap, 3, &[comes, comes, never])?.as_slice(), &[999, 2])?;
-    check_eq(outcome(heap, 1, &[Change::Goes(0), Change::Goes(0)])?.as_slice(), &[999, 1])?;
-    check_eq(outcome(heap, 1, &[Change::More(0, 999_996)])?.as_slice(), &[999, 0])?;
-    check_eq(outcome(heap, 1, &[Change::More(1, 1)])?.as_slice(), &[999, 0])
+    check_eq(
+        outcome(heap, 3, &[comes, comes, never])?.as_slice(),
+        &[999, 2],
+    )?;
+    check_eq(
+        outcome(heap, 1, &[Change::Goes(0), Change::Goes(0)])?.as_slice(),
+        &[999, 1],
+    )?;
+    check_eq(
+        outcome(heap, 1, &[Change::More(0, 999_996)])?.as_slice(),
+        &[999, 0],
+    )?;
+    check_eq(
+        outcome(heap, 1, &[Change::More(1, 1)])?.as_slice(),
+        &[999, 0],
+    )
 }

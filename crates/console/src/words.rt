@@ -93,7 +93,12 @@ fn knows(known: &[&str], word: &str) -> bool {
 }
 
 // Sorts the words by the switches and the options with a value that a program knows; refuses an option that isn't known, and one whose value is missing.
-pub fn sorted(heap: Global, switches: &[&str], options: &[&str], words: Vec<String>) -> Result<Words, Fault>
+pub fn sorted(
+    heap: Global,
+    switches: &[&str],
+    options: &[&str],
+    words: Vec<String>,
+) -> Result<Words, Fault>
     ensures { λ r. ⌜ Cases r (λ w. Sorted (vec-len words) w) (λ _. Unit {0}) ⌝ }
 {
     let mut out = Words::none(heap);

@@ -1,8 +1,8 @@
 -- One cell changes: what that does to the flow in lent memory.
 use mathlib.Core.Path.{_≡_, refl, sym, _∙_, ap}
-use mathlib.Core.Bool.{Bool, true, false, cond, not, _&&_, _||_}
+use mathlib.Core.Bool.{true, false, not, _&&_, _||_}
 use mathlib.Core.Logic.{_⊎_, inl, inr, _≢_}
-use Prim.Native.Nat.{ℕ, _+_, _*_, _-_, _≤_, _<_}
+use Prim.Native.Nat.{ℕ, _+_, _*_, _<_}
 use native.Mathlib.Omega.{arith}
 use lib.Dec.{eqb, ltb}
 use lib.ListN.{length, getD, set}
@@ -30,8 +30,8 @@ cell-bare marks work j s h = rw h refl
 pub cell-some : (marks : List Hours) (work : List ℕ) (j s : ℕ) → 0 < cell marks work j s → has (getD marks j blank) s ≡ true
 cell-some marks work j s h =
     elim (cases-bool (has (getD marks j blank) s)) [
-        inl t ↦ t
-        | inr f ↦ absurd (omega (arith, cell-bare marks work j s f))
+      | inl t ↦ t
+      | inr f ↦ absurd (omega (arith, cell-bare marks work j s f))
     ]
 
 -- equal marks and equal places make equal cells
@@ -66,25 +66,25 @@ pub marks-write :
     (has (getD marks′ j blank) s ≡ true → 0 < v) → Marks m marks′ (set work (j * 96 + s) v)
 marks-write m marks marks′ work j s v ls lk w from pos =
     record {
-        some = λ i t li h. elim (cases-eq i j) [
-            inl ei ↦ elim (cases-eq t s) [
-                inl et ↦
-                    (let p = pos (rw (ei, et) at h) in
-                    let q = getD-set-same work (j * 96 + s) v 0 lk in
-                    let e : i * 96 + t ≡ j * 96 + s = rw (ei, et) refl in
-                    rw (e, q) p)
-                | inr nt ↦ kept i t li h (λ a b. nt b)
-            ]
-            | inr ni ↦ kept i t li h (λ a b. ni a)
-        ];
-        low = λ i t li h. elim (from i t h) [ inl e ↦ omega (arith, e .1) | inr o ↦ w .low i t li o ]
+      some = λ i t li h. elim (cases-eq i j) [
+        | inl ei ↦ elim (cases-eq t s) [
+          | inl et ↦
+              (let p = pos (rw (ei, et) at h) in
+              let q = getD-set-same work (j * 96 + s) v 0 lk in
+              let e : i * 96 + t ≡ j * 96 + s = rw (ei, et) refl in
+              rw (e, q) p)
+          | inr nt ↦ kept i t li h (λ a b. nt b)
+        ]
+        | inr ni ↦ kept i t li h (λ a b. ni a)
+      ];
+      low = λ i t li h. elim (from i t h) [ inl e ↦ omega (arith, e .1) | inr o ↦ w .low i t li o ];
     }
   where
     kept : (i t : ℕ) → i < m → has (getD marks′ i blank) t ≡ true → (i ≡ j → t ≡ s → ⊥) → 0 < getD (set work (j * 96 + s) v) (i * 96 + t) 0
     kept i t li h ne =
         elim (from i t h) [
-            inl e ↦ absurd (ne (e .0) (e .1))
-            | inr o ↦ omega (arith, w .some i t li o, write-other marks work j s v ls i t (w .low i t li o) ne)
+          | inl e ↦ absurd (ne (e .0) (e .1))
+          | inr o ↦ omega (arith, w .some i t li o, write-other marks work j s v ls i t (w .low i t li o) ne)
         ]
 
 -- the marks of row j with hour s, and without it
@@ -96,16 +96,16 @@ module _ (marks : List Hours) (j s : ℕ) (x : Hours) (lj : j < length marks) (l
     pub insert-other : (i t : ℕ) → (i ≡ j → t ≡ s → ⊥) → has (getD (set marks j x) i blank) t ≡ has (getD marks i blank) t
     insert-other i t ne =
         elim (cases-eq i j) [
-            inl ei ↦ rw ei (mark-at marks j x lj t ∙ (let h = e t in let nt = ne ei in grind (arith, tells)))
-            | inr ni ↦ mark-other marks j x i ni t
+          | inl ei ↦ rw ei (mark-at marks j x lj t ∙ (let h = e t in let nt = ne ei in grind (arith, tells)))
+          | inr ni ↦ mark-other marks j x i ni t
         ]
 
     pub insert-from :
         (i t : ℕ) → has (getD (set marks j x) i blank) t ≡ true → ((i ≡ j) × (t ≡ s)) ⊎ (has (getD marks i blank) t ≡ true)
     insert-from i t h =
         elim (cases-eq i j) [
-            inl ei ↦ elim (cases-eq t s) [ inl et ↦ inl (ei, et) | inr nt ↦ inr (sym (insert-other i t (λ a b. nt b)) ∙ h) ]
-            | inr ni ↦ inr (sym (insert-other i t (λ a b. ni a)) ∙ h)
+          | inl ei ↦ elim (cases-eq t s) [ inl et ↦ inl (ei, et) | inr nt ↦ inr (sym (insert-other i t (λ a b. nt b)) ∙ h) ]
+          | inr ni ↦ inr (sym (insert-other i t (λ a b. ni a)) ∙ h)
         ]
 
   module _ (e : (k : ℕ) → has x k ≡ (has (getD marks j blank) k && not (eqb k s))) where
@@ -115,16 +115,16 @@ module _ (marks : List Hours) (j s : ℕ) (x : Hours) (lj : j < length marks) (l
     pub remove-other : (i t : ℕ) → (i ≡ j → t ≡ s → ⊥) → has (getD (set marks j x) i blank) t ≡ has (getD marks i blank) t
     remove-other i t ne =
         elim (cases-eq i j) [
-            inl ei ↦ rw ei (mark-at marks j x lj t ∙ (let h = e t in let nt = ne ei in grind (arith, tells)))
-            | inr ni ↦ mark-other marks j x i ni t
+          | inl ei ↦ rw ei (mark-at marks j x lj t ∙ (let h = e t in let nt = ne ei in grind (arith, tells)))
+          | inr ni ↦ mark-other marks j x i ni t
         ]
 
     pub remove-from :
         (i t : ℕ) → has (getD (set marks j x) i blank) t ≡ true → ((i ≡ j) × (t ≡ s)) ⊎ (has (getD marks i blank) t ≡ true)
     remove-from i t h =
         elim (cases-eq i j) [
-            inl ei ↦ elim (cases-eq t s) [ inl et ↦ inl (ei, et) | inr nt ↦ inr (sym (remove-other i t (λ a b. nt b)) ∙ h) ]
-            | inr ni ↦ inr (sym (remove-other i t (λ a b. ni a)) ∙ h)
+          | inl ei ↦ elim (cases-eq t s) [ inl et ↦ inl (ei, et) | inr nt ↦ inr (sym (remove-other i t (λ a b. nt b)) ∙ h) ]
+          | inr ni ↦ inr (sym (remove-other i t (λ a b. ni a)) ∙ h)
         ]
 
 -- the room in hour s changes

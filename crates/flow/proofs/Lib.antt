@@ -1,3 +1,4 @@
+pub mod Betters
 pub mod Cells
 pub mod Cuts
 pub mod Ends

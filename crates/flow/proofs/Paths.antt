@@ -1,21 +1,19 @@
 -- Room made in one hour by moves down the layers.
-use mathlib.Core.Path.{_≡_, refl, sym, _∙_, ap}
-use mathlib.Core.Bool.{Bool, true, false, _&&_}
-use mathlib.Core.Logic.{_⊎_, inl, inr}
+use mathlib.Core.Path.{_≡_, _∙_}
+use mathlib.Core.Bool.{Bool, true, false}
+use mathlib.Core.Logic.{inl, inr}
 use Prim.Native.Nat.{ℕ, _+_, _*_, _-_, _^_, _≤_, _<_}
 use native.Mathlib.Omega.{arith}
-use lib.ListN.{length, getD}
+use lib.ListN.{getD}
 use Rattle.std.specs.shelf.Lists.{List}
-use Rattle.std.proofs.shelf.Tests.{cases-eq, cases-bool, both-ways}
-use Rattle.fraction.specs.Sum.{any, both}
-use Rattle.fraction.proofs.Sums.{any-has, any-some}
+use Rattle.std.proofs.shelf.Tests.{cases-bool, both-ways}
+use Rattle.fraction.specs.Sum.{both}
+use Rattle.fraction.proofs.Sums.{any-has}
 use Rattle.night.specs.declared.hours.Hours.{Hours}
 use Rattle.night.specs.Hours.{has, blank}
 use Rattle.flow.specs.declared.net.Net.{Net}
-use Rattle.flow.specs.Flow.{column}
-use Rattle.flow.specs.Layer.{Layers}
-use Rattle.flow.specs.Lent.{permits, marked, flow, left, room, layer, touches, Shifted, Sound, Layered}
-use Rattle.flow.specs.Path.{Step, No-step, Freed}
+use Rattle.flow.specs.Lent.{permits, marked, flow, room, layer, touches, Shifted, Sound, Layered}
+use Rattle.flow.specs.Path.{No-step, Freed}
 use Rattle.flow.proofs.Cells.{cell-marked}
 use Rattle.flow.proofs.Steps.{cell-column}
 
@@ -59,13 +57,13 @@ module _
       far t ≡ true → far u ≡ true → (want : ℕ) → got ≤ want → Freed far net work net″ work″ t want got
   freed-more ft fu want le =
       record {
-          most = le;
-          ready = omega (arith, g .fell .there, g .grew .rooms t ne);
-          kept = λ i s ls o.
-              (let a = g .fell .cells i s ls (λ x y. both-ways _ o (rw y ft)) in
-              let b = g .grew .cells i s ls (λ x y. both-ways _ o (rw y fu)) in
-              omega (arith, a, b, w .kept i s ls (within s o)));
-          lefts = g .lefts ∙ w .lefts
+        most = le;
+        ready = omega (arith, g .fell .there, g .grew .rooms t ne);
+        kept = λ i s ls o.
+            (let a = g .fell .cells i s ls (λ x y. both-ways _ o (rw y ft)) in
+            let b = g .grew .cells i s ls (λ x y. both-ways _ o (rw y fu)) in
+            omega (arith, a, b, w .kept i s ls (within s o)));
+        lefts = g .lefts ∙ w .lefts;
       }
 
 -- the flow of a task that has a mark in the hour

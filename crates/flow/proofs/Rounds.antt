@@ -1,7 +1,7 @@
 -- One round of a look adds a layer.
-use mathlib.Core.Path.{_≡_, refl, sym, _∙_, ap}
-use mathlib.Core.Bool.{Bool, true, false, not, _&&_}
-use mathlib.Core.Logic.{_⊎_, inl, inr, _≢_}
+use mathlib.Core.Path.{_≡_, sym, _∙_, ap}
+use mathlib.Core.Bool.{true, false, not, _&&_}
+use mathlib.Core.Logic.{inl, inr, _≢_}
 use Prim.Native.Nat.{ℕ, _+_, _≤_, _<_}
 use native.Mathlib.Omega.{arith}
 use lib.Dec.{ltb}
@@ -9,15 +9,15 @@ use lib.ListN.{length, getD, set}
 use lib.Seq.{getD-set-same, getD-set-other}
 use Rattle.std.specs.shelf.Lists.{List}
 use Rattle.std.proofs.shelf.Ways.{tells}
-use Rattle.std.proofs.shelf.Tests.{cases-bool, cases-eq, cases-lt, both-ways}
+use Rattle.std.proofs.shelf.Tests.{cases-bool, cases-eq}
 use Rattle.fraction.specs.Sum.{size, any, both}
-use Rattle.fraction.proofs.Sums.{any-some, size-more, size-le, sum-same, part-same-test}
+use Rattle.fraction.proofs.Sums.{any-some, size-more, part-same-test}
 use Rattle.night.specs.declared.hours.Hours.{Hours}
 use Rattle.night.specs.Hours.{has, blank}
 use Rattle.night.proofs.Members.{none-any}
 use Rattle.flow.specs.declared.net.Net.{Net}
-use Rattle.flow.specs.Layer.{Passes, Layers}
-use Rattle.flow.specs.Lent.{permits, marked, left, room, layer, touches, Layered, Spread, Stuck}
+use Rattle.flow.specs.Layer.{Passes}
+use Rattle.flow.specs.Lent.{permits, marked, room, layer, Layered, Spread, Stuck}
 
 -- a set in its place, and the others beside it
 pub layer-at : (layers : List Hours) (k : ℕ) (x : Hours) → k < length layers → (s : ℕ) → layer (set layers k x) k s ≡ has x s
@@ -33,15 +33,15 @@ pub layered-first :
     Layered m may net (set layers 0 x) 0
 layered-first m may net layers x l is low =
     record {
-        ways =
-            record {
-                first = λ s ls h. (let e = is s in let a = layer-at layers 0 x l s in grind (arith, tells));
-                room = λ s ls h. (let e = is s in let a = layer-at layers 0 x l s in grind (arith, tells));
-                up = λ d ld. absurd (omega arith);
-                from = λ d ld. absurd (omega arith)
-            };
-        low = λ d ld s h.
-            (let z : d ≡ 0 = omega arith in low s (sym (layer-at layers 0 x l s) ∙ (rw z at h)))
+      ways =
+          record {
+            first = λ s ls h. (let e = is s in let a = layer-at layers 0 x l s in grind (arith, tells));
+            room = λ s ls h. (let e = is s in let a = layer-at layers 0 x l s in grind (arith, tells));
+            up = λ d ld. absurd (omega arith);
+            from = λ d ld. absurd (omega arith);
+          };
+      low = λ d ld s h.
+          (let z : d ≡ 0 = omega arith in low s (sym (layer-at layers 0 x l s) ∙ (rw z at h)));
     }
 
 module _ {m : ℕ} {may : List Hours} {net : Net} {layers : List Hours} {k : ℕ} {next : Hours}
@@ -55,21 +55,21 @@ module _ {m : ℕ} {may : List Hours} {net : Net} {layers : List Hours} {k : ℕ
       let e = i .2 in
       let near : layer layers k (i .0) ≡ true = grind arith in
       record {
-          task = a .0;
-          hour = i .0;
-          task-in = a .1;
-          hour-in = w .low k (omega arith) (i .0) near;
-          allowed = grind arith;
-          nearer = near;
-          flows = a .3
+        task = a .0;
+        hour = i .0;
+        task-in = a .1;
+        hour-in = w .low k (omega arith) (i .0) near;
+        allowed = grind arith;
+        nearer = near;
+        flows = a .3;
       }
 
   -- an hour of the next layer lies below 96
   next-low : (s : ℕ) → has next s ≡ true → s < 96
   next-low s h =
       elim (cases-bool (layer layers k s)) [
-          inl t ↦ w .low k (omega arith) s t
-          | inr out ↦ (let a = sp .adds s h out in marks (a .0) s (a .1) (a .3))
+        | inl t ↦ w .low k (omega arith) s t
+        | inr out ↦ (let a = sp .adds s h out in marks (a .0) s (a .1) (a .3))
       ]
 
   module _ (rest : Hours) (diff : (s : ℕ) → has rest s ≡ (has next s && not (layer layers k s))) where
@@ -86,10 +86,10 @@ module _ {m : ℕ} {may : List Hours} {net : Net} {layers : List Hours} {k : ℕ
     pub stuck : any 128 (has rest) ≡ false → Stuck m may net (getD layers k blank)
     stuck h =
         record {
-            shut = λ j s lj t on.
-                (let n = none-any rest h s in let d = diff s in let a = sp .all j s lj t on in
-                elim (cases-bool (layer layers k s)) [ inl y ↦ y | inr x ↦ absurd (grind arith) ]);
-            idle = sp .idle
+          shut = λ j s lj t on.
+              (let n = none-any rest h s in let d = diff s in let a = sp .all j s lj t on in
+              elim (cases-bool (layer layers k s)) [ inl y ↦ y | inr x ↦ absurd (grind arith) ]);
+          idle = sp .idle;
         }
 
   module _ (l : k + 1 < length layers) where
@@ -104,13 +104,13 @@ module _ {m : ℕ} {may : List Hours} {net : Net} {layers : List Hours} {k : ℕ
         Passes m 96 (permits may) (marked net) (layer (set layers (k + 1) next) d) s
     passes d ld s p =
         record {
-            task = p .task;
-            hour = p .hour;
-            task-in = p .task-in;
-            hour-in = p .hour-in;
-            allowed = p .allowed;
-            nearer = old d ld (p .hour) ∙ p .nearer;
-            flows = p .flows
+          task = p .task;
+          hour = p .hour;
+          task-in = p .task-in;
+          hour-in = p .hour-in;
+          allowed = p .allowed;
+          nearer = old d ld (p .hour) ∙ p .nearer;
+          flows = p .flows;
         }
 
     pub next-size : size 96 (layer (set layers (k + 1) next) (k + 1)) ≡ size 96 (has next)
@@ -119,29 +119,29 @@ module _ {m : ℕ} {may : List Hours} {net : Net} {layers : List Hours} {k : ℕ
     pub layered-more : Layered m may net (set layers (k + 1) next) (k + 1)
     layered-more =
         record {
-            ways =
-                record {
-                    first = λ s ls h. w .ways .first s ls (sym (old 0 (omega arith) s) ∙ h);
-                    room = λ s ls h. old 0 (omega arith) s ∙ w .ways .room s ls h;
-                    up = λ d ld s ls h.
-                        elim (cases-eq d k) [
-                            inl e ↦ rw e (new s ∙ sp .keeps s (sym (old k (omega arith) s) ∙ (rw e at h)))
-                            | inr ne ↦
-                                old (d + 1) (omega arith) s ∙ w .ways .up d (omega arith) s ls (sym (old d (omega arith) s) ∙ h)
-                        ];
-                    from = λ d ld s ls h out.
-                        elim (cases-eq d k) [
-                            inl e ↦
-                                rw e (passes k (omega arith) s
-                                    (added s (sym (new s) ∙ (rw e at h)) (sym (old k (omega arith) s) ∙ (rw e at out))))
-                            | inr ne ↦
-                                passes d (omega arith) s
-                                    (w .ways .from d (omega arith) s ls (sym (old (d + 1) (omega arith) s) ∙ h) (sym (old d (omega arith) s) ∙ out))
-                        ]
-                };
-            low = λ d ld s h.
-                elim (cases-eq d (k + 1)) [
-                    inl e ↦ next-low s (sym (new s) ∙ (rw e at h))
-                    | inr ne ↦ w .low d (omega arith) s (sym (old d (omega arith) s) ∙ h)
-                ]
+          ways =
+              record {
+                first = λ s ls h. w .ways .first s ls (sym (old 0 (omega arith) s) ∙ h);
+                room = λ s ls h. old 0 (omega arith) s ∙ w .ways .room s ls h;
+                up = λ d ld s ls h.
+                    elim (cases-eq d k) [
+                      | inl e ↦ rw e (new s ∙ sp .keeps s (sym (old k (omega arith) s) ∙ (rw e at h)))
+                      | inr ne ↦
+                          old (d + 1) (omega arith) s ∙ w .ways .up d (omega arith) s ls (sym (old d (omega arith) s) ∙ h)
+                    ];
+                from = λ d ld s ls h out.
+                    elim (cases-eq d k) [
+                      | inl e ↦
+                          rw e (passes k (omega arith) s
+                          (added s (sym (new s) ∙ (rw e at h)) (sym (old k (omega arith) s) ∙ (rw e at out))))
+                      | inr ne ↦
+                          passes d (omega arith) s
+                          (w .ways .from d (omega arith) s ls (sym (old (d + 1) (omega arith) s) ∙ h) (sym (old d (omega arith) s) ∙ out))
+                    ];
+              };
+          low = λ d ld s h.
+              elim (cases-eq d (k + 1)) [
+                | inl e ↦ next-low s (sym (new s) ∙ (rw e at h))
+                | inr ne ↦ w .low d (omega arith) s (sym (old d (omega arith) s) ∙ h)
+              ];
         }

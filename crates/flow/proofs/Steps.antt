@@ -1,13 +1,12 @@
 -- What a change of cells does to rows, columns and room.
 use mathlib.Core.Path.{_≡_, refl, sym, _∙_, ap}
-use mathlib.Core.Bool.{Bool, true, false}
-use mathlib.Core.Logic.{_⊎_, inl, inr}
-use Prim.Native.Nat.{ℕ, _+_, _*_, _^_, _≤_, _<_}
+use mathlib.Core.Bool.{Bool, true}
+use mathlib.Core.Logic.{inl, inr}
+use Prim.Native.Nat.{ℕ, _+_, _*_, _≤_, _<_}
 use native.Mathlib.Omega.{arith}
-use lib.ListN.{length, getD}
+use lib.ListN.{getD}
 use Rattle.std.specs.shelf.Lists.{List}
 use Rattle.std.proofs.shelf.Tests.{cases-eq, both-ways}
-use Rattle.fraction.specs.Sum.{sum}
 use Rattle.fraction.proofs.Sums.{sum-same, sum-update, sum-at}
 use Rattle.flow.specs.declared.net.Net.{Net}
 use Rattle.flow.specs.Flow.{row, column}
@@ -34,8 +33,8 @@ module _ {net : Net} {work : List ℕ} {net′ : Net} {work′ : List ℕ} {j s 
       room net′ t + column m (flow net′ work′) t ≡ room net t + column m (flow net work) t
   grew-balance m lj t lt =
       elim (cases-eq t s) [
-          inl e ↦ rw e (omega (arith, g .there, grew-column m lj))
-          | inr ne ↦ omega (arith, g .rooms t ne, grew-columns m t lt ne)
+        | inl e ↦ rw e (omega (arith, g .there, grew-column m lj))
+        | inr ne ↦ omega (arith, g .rooms t ne, grew-columns m t lt ne)
       ]
 
   -- the memory behind the rows stays
@@ -46,18 +45,15 @@ module _ {net : Net} {work : List ℕ} {net′ : Net} {work′ : List ℕ} {j s 
 pub cell-column : (m : ℕ) (net : Net) (work : List ℕ) (j s : ℕ) → j < m → flow net work j s ≤ column m (flow net work) s
 cell-column m net work j s lj = sum-at m (λ i. flow net work i s) j lj
 
--- nothing happened, and one after the other
-pub steady-same : (m : ℕ) (net : Net) (work : List ℕ) → Steady m net work net work
-steady-same m net work = record { rows = λ j l. refl; columns = λ s l. refl; rest = λ k l. refl }
-
+-- one after the other
 pub steady-then :
     {m : ℕ} {net : Net} {work : List ℕ} {net′ : Net} {work′ : List ℕ} {net″ : Net} {work″ : List ℕ} →
     Steady m net work net′ work′ → Steady m net′ work′ net″ work″ → Steady m net work net″ work″
 steady-then a b =
     record {
-        rows = λ j l. b .rows j l ∙ a .rows j l;
-        columns = λ s l. b .columns s l ∙ a .columns s l;
-        rest = λ k l. b .rest k l ∙ a .rest k l
+      rows = λ j l. b .rows j l ∙ a .rows j l;
+      columns = λ s l. b .columns s l ∙ a .columns s l;
+      rest = λ k l. b .rest k l ∙ a .rest k l;
     }
 
 module _
@@ -66,21 +62,21 @@ module _
   pub shipped-steady : Steady m net work net′ work′
   shipped-steady =
       record {
-          rows = λ i li. elim (cases-eq i j) [
-              inl e ↦ rw e (omega (arith, g .took, grew-row ls (g .grew)))
-              | inr ne ↦ omega (arith, g .lefts i ne, grew-rows ls (g .grew) i ne)
-          ];
-          columns = grew-balance ls (g .grew) m lj;
-          rest = grew-rest ls (g .grew) m lj
+        rows = λ i li. elim (cases-eq i j) [
+          | inl e ↦ rw e (omega (arith, g .took, grew-row ls (g .grew)))
+          | inr ne ↦ omega (arith, g .lefts i ne, grew-rows ls (g .grew) i ne)
+        ];
+        columns = grew-balance ls (g .grew) m lj;
+        rest = grew-rest ls (g .grew) m lj;
       }
 
   pub shipped-sound :
       (may : ℕ → ℕ → Bool) → may j s ≡ true → Sound m may net work → (Marks m (net .marks) work → Marks m (net′ .marks) work′) → Sound m may net′ work′
   shipped-sound may can w marks =
       record {
-          only = λ i t li lt h. g .grew .cells i t lt (λ a b. both-ways _ (rw (a, b) at h) can) ∙ w .only i t li lt h;
-          marks = marks (w .marks);
-          fits = λ t lt. omega (arith, w .fits t lt, shipped-steady .columns t lt)
+        only = λ i t li lt h. g .grew .cells i t lt (λ a b. both-ways _ (rw (a, b) at h) can) ∙ w .only i t li lt h;
+        marks = marks (w .marks);
+        fits = λ t lt. omega (arith, w .fits t lt, shipped-steady .columns t lt);
       }
 
 module _
@@ -89,32 +85,32 @@ module _
   pub shifted-rows : (i : ℕ) → i < m → row 96 (flow net′ work′) i ≡ row 96 (flow net work) i
   shifted-rows i li =
       elim (cases-eq i j) [
-          inl e ↦ rw e (omega (arith, grew-row lt (g .fell), grew-row lu (g .grew)))
-          | inr ne ↦ omega (arith, grew-rows lt (g .fell) i ne, grew-rows lu (g .grew) i ne)
+        | inl e ↦ rw e (omega (arith, grew-row lt (g .fell), grew-row lu (g .grew)))
+        | inr ne ↦ omega (arith, grew-rows lt (g .fell) i ne, grew-rows lu (g .grew) i ne)
       ]
 
   pub shifted-steady : Steady m net work net′ work′
   shifted-steady =
       record {
-          rows = λ i li. (let l : left net′ i ≡ left net i = ap (λ x. getD x i 0) (g .lefts) in omega (arith, l, shifted-rows i li));
-          columns = λ s ls. omega (arith, grew-balance lt (g .fell) m lj s ls, grew-balance lu (g .grew) m lj s ls);
-          rest = λ k lk. omega (arith, grew-rest lt (g .fell) m lj k lk, grew-rest lu (g .grew) m lj k lk)
+        rows = λ i li. (let l : left net′ i ≡ left net i = ap (λ x. getD x i 0) (g .lefts) in omega (arith, l, shifted-rows i li));
+        columns = λ s ls. omega (arith, grew-balance lt (g .fell) m lj s ls, grew-balance lu (g .grew) m lj s ls);
+        rest = λ k lk. omega (arith, grew-rest lt (g .fell) m lj k lk, grew-rest lu (g .grew) m lj k lk);
       }
 
   pub shifted-sound :
       (may : ℕ → ℕ → Bool) → may j u ≡ true → Sound m may net work → (Marks m (net .marks) work → Marks m (net′ .marks) work′) → Sound m may net′ work′
   shifted-sound may can w marks =
       record {
-          only = λ i s li ls h.
-              (let b = g .grew .cells i s ls (λ a b. both-ways _ (rw (a, b) at h) can) in
-              let o = w .only i s li ls h in
-              elim (cases-eq i j) [
-                  inl ei ↦ elim (cases-eq s t) [
-                      inl es ↦ (let a = g .fell .at in let b′ = rw (ei, es) at b in let o′ = rw (ei, es) at o in rw (ei, es) (omega (arith, a, b′, o′)))
-                      | inr ns ↦ omega (arith, b, o, g .fell .cells i s ls (λ x y. ns y))
-                  ]
-                  | inr ni ↦ omega (arith, b, o, g .fell .cells i s ls (λ x y. ni x))
-              ]);
-          marks = marks (w .marks);
-          fits = λ s ls. omega (arith, w .fits s ls, shifted-steady .columns s ls)
+        only = λ i s li ls h.
+            (let b = g .grew .cells i s ls (λ a b. both-ways _ (rw (a, b) at h) can) in
+            let o = w .only i s li ls h in
+            elim (cases-eq i j) [
+              | inl ei ↦ elim (cases-eq s t) [
+                | inl es ↦ (let a = g .fell .at in let b′ = rw (ei, es) at b in let o′ = rw (ei, es) at o in rw (ei, es) (omega (arith, a, b′, o′)))
+                | inr ns ↦ omega (arith, b, o, g .fell .cells i s ls (λ x y. ns y))
+              ]
+              | inr ni ↦ omega (arith, b, o, g .fell .cells i s ls (λ x y. ni x))
+            ]);
+        marks = marks (w .marks);
+        fits = λ s ls. omega (arith, w .fits s ls, shifted-steady .columns s ls);
       }

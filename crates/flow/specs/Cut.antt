@@ -1,9 +1,9 @@
 -- What a cut says of flows: statements for any tasks, hours, permissions, supplies and capacities. Assumes nothing.
 use mathlib.Core.Path.{_≡_}
-use mathlib.Core.Bool.{Bool, true, false, cond, not, _&&_}
+use mathlib.Core.Bool.{Bool, true, not}
 use Prim.Native.Nat.{ℕ, _+_, _≤_, _<_}
-use Rattle.fraction.specs.Sum.{sum, part, size, any, both}
-use Rattle.flow.specs.Flow.{row, column, value, meets, Flow, Most, Largest}
+use Rattle.fraction.specs.Sum.{part, size, both}
+use Rattle.flow.specs.Flow.{row, value, meets, Flow, Largest}
 
 -- no flow ships more than the tasks that may use an hour of a set, and what the hours outside of it bear
 abbrev pub At-most : Type 0

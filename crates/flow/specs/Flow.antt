@@ -2,9 +2,9 @@
 -- m tasks and n hours, numbered from 0; may j s: task j may use hour s; a j: the supply of task j; c s: the capacity of hour s;
 -- f j s: how much of task j is shipped into hour s. A set of hours is a test.
 use mathlib.Core.Path.{_≡_}
-use mathlib.Core.Bool.{Bool, true, false, cond, not, _&&_}
+use mathlib.Core.Bool.{Bool, true, false, not}
 use Prim.Native.Nat.{ℕ, _+_, _≤_, _<_}
-use Rattle.fraction.specs.Sum.{sum, part, size, any, both}
+use Rattle.fraction.specs.Sum.{sum, part, any, both}
 
 -- what task j ships
 abbrev pub row : ℕ → (ℕ → ℕ → ℕ) → ℕ → ℕ
@@ -49,7 +49,7 @@ pub record Reaches (m n : ℕ) (may : ℕ → ℕ → Bool) (c : ℕ → ℕ) (f
   pub roomy : Roomy m n c f u
   pub closed : Closed m n may f u
   pub least :
-    (v : ℕ → Bool) → Roomy m n c f v → Closed m n may f v → (s : ℕ) → s < n → u s ≡ true → v s ≡ true
+      (v : ℕ → Bool) → Roomy m n c f v → Closed m n may f v → (s : ℕ) → s < n → u s ≡ true → v s ≡ true
 
 -- f is a largest flow, and u the set of hours that can still reach room. The hours outside of u, and the tasks that may use
 -- no hour of u, are its dense side

@@ -21,4 +21,4 @@ pub record Layers (m n : ℕ) (may on : ℕ → ℕ → Bool) (spare : ℕ → �
   pub room : (s : ℕ) → s < n → 0 < spare s → layer 0 s ≡ true
   pub up : (d : ℕ) → d < k → (s : ℕ) → s < n → layer d s ≡ true → layer (d + 1) s ≡ true
   pub from :
-    (d : ℕ) → d < k → (s : ℕ) → s < n → layer (d + 1) s ≡ true → layer d s ≡ false → Passes m n may on (layer d) s
+      (d : ℕ) → d < k → (s : ℕ) → s < n → layer (d + 1) s ≡ true → layer d s ≡ false → Passes m n may on (layer d) s

@@ -3,12 +3,12 @@ use mathlib.Core.Path.{_≡_}
 use mathlib.Core.Bool.{Bool, true, false, cond, _&&_}
 use Prim.Native.Nat.{ℕ, _+_, _*_, _^_, _≤_, _<_}
 use lib.Dec.{eqb, leb}
-use lib.ListN.{length, getD}
+use lib.ListN.{getD}
 use Rattle.std.specs.shelf.Lists.{List}
 use Rattle.night.specs.declared.hours.Hours.{Hours}
 use Rattle.night.specs.Hours.{has, blank}
 use Rattle.flow.specs.declared.net.Net.{Net}
-use Rattle.fraction.specs.Sum.{any, both}
+use Rattle.fraction.specs.Sum.{sum, any, both}
 use Rattle.flow.specs.Flow.{row, column}
 use Rattle.flow.specs.Layer.{Layers}
 
@@ -82,8 +82,14 @@ pub record Sound (m : ℕ) (may : ℕ → ℕ → Bool) (net : Net) (work : List
 pub record Steady (m : ℕ) (net : Net) (work : List ℕ) (net′ : Net) (work′ : List ℕ) : Type 0 where
   pub rows : (j : ℕ) → j < m → left net′ j + row 96 (flow net′ work′) j ≡ left net j + row 96 (flow net work) j
   pub columns :
-    (s : ℕ) → s < 96 → room net′ s + column m (flow net′ work′) s ≡ room net s + column m (flow net work) s
+      (s : ℕ) → s < 96 → room net′ s + column m (flow net′ work′) s ≡ room net s + column m (flow net work) s
   pub rest : (k : ℕ) → m * 96 ≤ k → getD work′ k 0 ≡ getD work k 0
+
+-- from one state to a sound one in which no more is left
+pub record Better (m : ℕ) (may : ℕ → ℕ → Bool) (net : Net) (work : List ℕ) (net′ : Net) (work′ : List ℕ) : Type 0 where
+  pub sound : Sound m may net′ work′
+  pub steady : Steady m net work net′ work′
+  pub less : sum m (left net′) ≤ sum m (left net)
 
 -- the hours that the sets of a list have
 abbrev pub layer : List Hours → ℕ → ℕ → Bool

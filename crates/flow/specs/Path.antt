@@ -2,7 +2,6 @@
 use mathlib.Core.Path.{_≡_}
 use mathlib.Core.Bool.{Bool, true, false}
 use Prim.Native.Nat.{ℕ, _≤_, _<_}
-use lib.ListN.{length, getD}
 use Rattle.std.specs.shelf.Lists.{List}
 use Rattle.night.specs.declared.hours.Hours.{Hours}
 use Rattle.night.specs.Hours.{has}

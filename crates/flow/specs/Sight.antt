@@ -1,11 +1,11 @@
 -- What a look at the layers tells, case by case. Assumes nothing: these are definitions.
 use mathlib.Core.Path.{_≡_}
-use mathlib.Core.Bool.{Bool, true, false}
-use Prim.Native.Nat.{ℕ, _+_, _*_, _≤_, _<_}
-use lib.ListN.{length, getD}
+use mathlib.Core.Bool.{true}
+use Prim.Native.Nat.{ℕ, _≤_, _<_}
+use lib.ListN.{getD}
 use Rattle.std.specs.shelf.Lists.{List}
 use Rattle.night.specs.declared.hours.Hours.{Hours}
-use Rattle.night.specs.Hours.{has, blank}
+use Rattle.night.specs.Hours.{blank}
 use Rattle.flow.specs.declared.net.Net.{Net}
 use Rattle.flow.specs.declared.layer.Round.{Round}
 use Rattle.flow.specs.declared.layer.Round.the-variants.{Waits, Next}

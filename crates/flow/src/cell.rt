@@ -3,7 +3,6 @@ ghost use lib.ListN.{length};
 ghost use mathlib.Core.Path.{_≡_};
 ghost use Prim.Native.Nat.{ℕ, _+_, _*_, _^_, _<_, _≤_};
 ghost use Rattle.flow.specs.Lent.{flow, left, room, Marks, Grew, Shipped, Shifted};
-
 use crate::net::Net;
 
 // Adds d to cell (j, s), and takes it from the room in hour s.

@@ -3,11 +3,10 @@ ghost use lib.Dec.{ltb};
 ghost use lib.ListN.{length};
 ghost use mathlib.Core.Bool.{true, false};
 ghost use mathlib.Core.Path.{_≡_};
-ghost use Prim.Native.Nat.{ℕ, _+_, _*_, _<_, _≤_};
+ghost use Prim.Native.Nat.{ℕ, _<_, _≤_};
 ghost use Rattle.night.specs.Hours.{has};
 ghost use Rattle.flow.specs.Lent.{marked, room};
 ghost use Rattle.flow.specs.Sight.{Rounds, Seen};
-
 use crate::net::Net;
 use night::hours::Hours;
 

@@ -4,7 +4,6 @@ ghost use mathlib.Core.Bool.{false};
 ghost use mathlib.Core.Path.{_≡_};
 ghost use Prim.Native.Nat.{ℕ};
 ghost use Rattle.flow.specs.Lent.{marked, needed};
-
 use night::hours::Hours;
 use night::hours::HoursDebug;
 use night::hours::HoursEq;
@@ -27,7 +26,11 @@ impl Net {
         ensures marks { λ r. ⌜ ((j s : ℕ) → marked r j s ≡ false) ⌝ }
     {
         let none = Hours::none();
-        Net { room: [0; 96], left: [0; 200], marks: [none; 200] }
+        Net {
+            room: [0; 96],
+            left: [0; 200],
+            marks: [none; 200],
+        }
     }
 }
 

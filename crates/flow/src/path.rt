@@ -6,7 +6,6 @@ ghost use Prim.Native.Nat.{_*_, _<_, _≤_};
 ghost use Rattle.std.specs.Options.{Cases};
 ghost use Rattle.flow.specs.Lent.{permits, layer, Sound, Steady, Layered};
 ghost use Rattle.flow.specs.Path.{Step, No-step, Freed};
-
 use crate::cell::shift;
 use crate::net::Net;
 use night::hours::Hours;
@@ -14,10 +13,8 @@ use night::hours::Hours;
 // A task with flow in hour t that may use an hour of the set, and that hour.
 fn pass(may: &[Hours], net: &Net, near: Hours, t: usize) -> Option<(usize, usize)>
     requires tasks { ⌜ length (now may) ≤ 200 ⌝ }
-    ensures {
-        λ r. ⌜ Cases r (No-step (length (now (may .entry))) (now (may .entry)) (now (net .entry)) near t)
-            (λ p. Step (length (now (may .entry))) (now (may .entry)) (now (net .entry)) near t (p .0) (p .1)) ⌝
-    }
+    ensures { λ r. ⌜ Cases r (No-step (length (now (may .entry))) (now (may .entry)) (now (net .entry)) near t)
+        (λ p. Step (length (now (may .entry))) (now (may .entry)) (now (net .entry)) near t (p .0) (p .1)) ⌝ }
 {
     'tasks: for j in 0..may.len() {
         if net.marks[j].contains(t) {
@@ -30,7 +27,15 @@ fn pass(may: &[Hours], net: &Net, near: Hours, t: usize) -> Option<(usize, usize
 }
 
 // Makes room in hour t of layer d, for at most `want`, by moves down the layers; says how much.
-pub fn free(may: &[Hours], layers: &[Hours; 97], net: &mut Net, work: &mut [u64], d: usize, t: usize, want: u64) -> u64
+pub fn free(
+    may: &[Hours],
+    layers: &[Hours; 97],
+    net: &mut Net,
+    work: &mut [u64],
+    d: usize,
+    t: usize,
+    want: u64,
+) -> u64
     requires tasks { ⌜ length (now may) ≤ 200 ⌝ }
     requires cells { ⌜ length (now may) * 96 ≤ length (now work) ⌝ }
     requires depth { ⌜ d ≤ 96 ⌝ }

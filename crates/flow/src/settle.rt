@@ -10,10 +10,10 @@ ghost use Rattle.flow.specs.Flow.{column};
 ghost use Rattle.flow.specs.Lent.{permits, flow, left, room, Sound, Steady, Layered};
 ghost use Rattle.flow.specs.Outcome.{Settled};
 ghost use Rattle.flow.specs.Sight.{Waiting};
-
+use crate::cell::ship;
+use crate::drain::serve_all;
 use crate::layer::Sight;
 use crate::layer::look;
-use crate::cell::ship;
 use crate::net::Filled;
 use crate::net::Net;
 use crate::path::free;
@@ -22,9 +22,7 @@ use night::hours::Hours;
 // Whether one of the first m tasks has something left.
 fn waits(net: &Net, m: usize) -> bool
     requires { ⌜ m ≤ 200 ⌝ }
-    ensures {
-        λ r. ⌜ When r ((j : ℕ) × (j < m) × (0 < left (now (net .entry)) j)) ((j : ℕ) → j < m → left (now (net .entry)) j ≡ 0) ⌝
-    }
+    ensures { λ r. ⌜ When r ((j : ℕ) × (j < m) × (0 < left (now (net .entry)) j)) ((j : ℕ) → j < m → left (now (net .entry)) j ≡ 0) ⌝ }
 {
     'tasks: for j in 0..m {
         if net.left[j] > 0 {
@@ -35,7 +33,14 @@ fn waits(net: &Net, m: usize) -> bool
 }
 
 // Ships some of task j, which waits at layer d.
-pub fn step(may: &[Hours], layers: &[Hours; 97], net: &mut Net, work: &mut [u64], d: usize, j: usize)
+pub fn step(
+    may: &[Hours],
+    layers: &[Hours; 97],
+    net: &mut Net,
+    work: &mut [u64],
+    d: usize,
+    j: usize,
+)
     requires tasks { ⌜ length (now may) ≤ 200 ⌝ }
     requires cells { ⌜ length (now may) * 96 ≤ length (now work) ⌝ }
     requires depth { ⌜ d ≤ 96 ⌝ }
@@ -72,7 +77,10 @@ pub fn settle(may: &[Hours], hours: Hours, net: &mut Net, work: &mut [u64]) -> F
             return Filled::Whole;
         }
         match look(may, hours, net, &mut layers) {
-            Sight::Way(d, j) => step(may, &layers, net, work, d, j),
+            Sight::Way(d, j) => {
+                step(may, &layers, net, work, d, j);
+                serve_all(may, &mut layers, net, work, d);
+            }
             Sight::End(d) => return Filled::Cut(layers[d]),
         }
     }

@@ -9,6 +9,6 @@ pub any-zero : (p : ℕ → Bool) → any 0 p ≡ false
 unfolding any
 any-zero p = refl
 
-pub any-more : (n : ℕ) (p : ℕ → Bool) → any (n + 1) p ≡ (any n p || p n)
+pub any-next : (n : ℕ) (p : ℕ → Bool) → any (n + 1) p ≡ (any n p || p n)
 unfolding any
-any-more n p = rw native.Mathlib.Numerals.add-one (grind arith)
+any-next n p = rw native.Mathlib.Numerals.add-one (grind arith)

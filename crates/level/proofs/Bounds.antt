@@ -14,9 +14,9 @@ pub upper-same :
     Upper m n may units t h a b → Upper m n may units t′ h′ a b
 upper-same m n may units t h t′ h′ a b et eh w q e k o =
     let s1 : part m (both t′ q) units ≡ part m (both t q) units =
-        part-same-test m _ _ units (λ j i. let g = et j i in grind arith) in
+    part-same-test m _ _ units (λ j i. let g = et j i in grind arith) in
     let s2 : size n (both h′ e) ≡ size n (both h e) =
-        part-same-test n _ _ (λ s. 1) (λ s l. let g = eh s l in grind arith) in
+    part-same-test n _ _ (λ s. 1) (λ s l. let g = eh s l in grind arith) in
     rw (s1, s2)
     (w q e (λ j s i l y x v g. k j s i l (et j i ∙ y) x (eh s l ∙ v) g) (rw s2 at o))
 
@@ -26,9 +26,9 @@ pub lower-same :
     Lower m n may units t h a b → Lower m n may units t′ h′ a b
 lower-same m n may units t h t′ h′ a b et eh w q e k =
     let s1 : part m (both t′ q) units ≡ part m (both t q) units =
-        part-same-test m _ _ units (λ j i. let g = et j i in grind arith) in
+    part-same-test m _ _ units (λ j i. let g = et j i in grind arith) in
     let s2 : size n (both h′ e) ≡ size n (both h e) =
-        part-same-test n _ _ (λ s. 1) (λ s l. let g = eh s l in grind arith) in
+    part-same-test n _ _ (λ s. 1) (λ s l. let g = eh s l in grind arith) in
     let s3 : part m t′ units ≡ part m t units = part-same-test m _ _ units et in
     let s4 : size n h′ ≡ size n h = part-same-test n _ _ (λ s. 1) eh in
     rw (s1, s2, s3, s4)

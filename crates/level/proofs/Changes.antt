@@ -23,16 +23,16 @@ pub any-low :
     (n k : ℕ) (p : ℕ → Bool) → n ≤ k → ((i : ℕ) → p i ≡ true → i < n) → any k p ≡ any n p
 any-low n k p l low =
     elim (cases-bool (any n p)) [
-        inl y ↦
-            (let r = any-some n p y in
-            any-has k p (r .0) (omega (arith, r .1)) (r .2) ∙ sym y)
-        | inr z ↦
-            any-hasn't k p
-            (λ i g. elim (cases-bool (p i)) [
-                inl t ↦ (let v = any-none n p z i (low i t) in absurd (grind arith))
-                | inr f ↦ f
-            ])
-            ∙ sym z
+      | inl y ↦
+          (let r = any-some n p y in
+          any-has k p (r .0) (omega (arith, r .1)) (r .2) ∙ sym y)
+      | inr z ↦
+          any-hasn't k p
+          (λ i g. elim (cases-bool (p i)) [
+            | inl t ↦ (let v = any-none n p z i (low i t) in absurd (grind arith))
+            | inr f ↦ f
+          ])
+          ∙ sym z
     ]
 
 -- whether a task may use an hour of a set
@@ -47,10 +47,10 @@ pub freed-more :
     ((i : ℕ) → (i ≡ j → ⊥) → label of₂ i ≡ label of₁ i) → Freed ts top u (j + 1) of of₂
 freed-more ts top u j of of₁ of₂ w here there =
     record {
-        done = λ i l.
-            elim (cases-eq i j) [
-                inl e ↦ rw e (here ∙ ap (λ v. cond (eqb v top && not (open-to 96 (may ts) u j)) (top - 1) v) (w .rest j (omega arith)))
-                | inr ne ↦ there i ne ∙ w .done i (omega arith)
-            ];
-        rest = λ i l. there i (λ e. omega arith) ∙ w .rest i (omega arith)
+      done = λ i l.
+          elim (cases-eq i j) [
+            | inl e ↦ rw e (here ∙ ap (λ v. cond (eqb v top && not (open-to 96 (may ts) u j)) (top - 1) v) (w .rest j (omega arith)))
+            | inr ne ↦ there i ne ∙ w .done i (omega arith)
+          ];
+      rest = λ i l. there i (λ e. omega arith) ∙ w .rest i (omega arith);
     }

@@ -30,11 +30,11 @@ unfolding first
 first-is zero p k l y h = absurd (omega arith)
 first-is (suc n) p k l y h =
     elim (cases-eq k n) [
-        inl e ↦
-            (let z = first-none n p (λ i g. h i (omega arith)) in
-            let y′ : p n ≡ true = rw e at y in
-            grind (arith, tells))
-        | inr ne ↦ (let z = first-is n p k (omega arith) y h in grind (arith, tells))
+      | inl e ↦
+          (let z = first-none n p (λ i g. h i (omega arith)) in
+          let y′ : p n ≡ true = rw e at y in
+          grind (arith, tells))
+      | inr ne ↦ (let z = first-is n p k (omega arith) y h in grind (arith, tells))
     ]
 
 -- the level of an hour of group g, and of none

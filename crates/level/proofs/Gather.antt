@@ -22,12 +22,12 @@ unfolding sum
 gather-sum zero p g = refl
 gather-sum (suc m) p g =
     elim (cases-bool (p m)) [
-        inl y ↦
-            (let e : 1 + size m p ≡ suc (size m p) = omega arith in
-            rw y (rw e (omega (arith, gather-sum m p g))))
-        | inr z ↦
-            (let e : 0 + size m p ≡ size m p = omega arith in
-            rw z (rw e (omega (arith, gather-sum m p g))))
+      | inl y ↦
+          (let e : 1 + size m p ≡ suc (size m p) = omega arith in
+          rw y (rw e (omega (arith, gather-sum m p g))))
+      | inr z ↦
+          (let e : 0 + size m p ≡ size m p = omega arith in
+          rw z (rw e (omega (arith, gather-sum m p g))))
     ]
 
 -- a member's position is below the number of members
@@ -41,20 +41,20 @@ unfolding sum
 gather-pick zero p i l = absurd (omega arith)
 gather-pick (suc m) p i l =
     elim (cases-lt i (size m p)) [
-        inl k ↦ (let r = gather-pick m p i k in (r .0, omega (arith, r .1), r .2, r .3))
-        | inr k ↦
-            elim (cases-bool (p m)) [
-                inl y ↦ (let w : cond {A = ℕ} (p m) 1 0 ≡ 1 = rw y refl in (m, omega arith, y, omega arith))
-                | inr z ↦ (let w : cond {A = ℕ} (p m) 1 0 ≡ 0 = rw z refl in absurd (omega arith))
-            ]
+      | inl k ↦ (let r = gather-pick m p i k in (r .0, omega (arith, r .1), r .2, r .3))
+      | inr k ↦
+          elim (cases-bool (p m)) [
+            | inl y ↦ (let w : cond {A = ℕ} (p m) 1 0 ≡ 1 = rw y refl in (m, omega arith, y, omega arith))
+            | inr z ↦ (let w : cond {A = ℕ} (p m) 1 0 ≡ 0 = rw z refl in absurd (omega arith))
+          ]
     ]
 
 -- two members at one position are one
 pub gather-same : (p : ℕ → Bool) (i j : ℕ) → p i ≡ true → p j ≡ true → size i p ≡ size j p → i ≡ j
 gather-same p i j y z e =
     elim (cases-lt i j) [
-        inl l ↦ absurd (omega (arith, gather-below j p i l y))
-        | inr g ↦ elim (cases-lt j i) [ inl l ↦ absurd (omega (arith, gather-below i p j l z)) | inr k ↦ omega arith ]
+      | inl l ↦ absurd (omega (arith, gather-below j p i l y))
+      | inr g ↦ elim (cases-lt j i) [ inl l ↦ absurd (omega (arith, gather-below i p j l z)) | inr k ↦ omega arith ]
     ]
 
 scattered-column : (m : ℕ) (p : ℕ → Bool) (f : ℕ → ℕ → ℕ) (s : ℕ) → column m (scattered p f) s ≡ column (size m p) f s
@@ -64,43 +64,42 @@ pub scattered-row :
     (n : ℕ) (p : ℕ → Bool) (f : ℕ → ℕ → ℕ) (j : ℕ) → row n (scattered p f) j ≡ cond (p j) (row n f (size j p)) 0
 scattered-row n p f j =
     elim (p j) as (λ b. sum n (λ s. cond b (f (size j p) s) 0) ≡ cond b (sum n (f (size j p))) 0) [
-        true ↦ refl
-        | false ↦ sum-zero n (λ s. 0) (λ s l. refl)
+      | true ↦ refl
+      | false ↦ sum-zero n (λ s. 0) (λ s l. refl)
     ]
 
 module _
     {m n : ℕ} {p : ℕ → Bool} {may may′ : ℕ → ℕ → Bool} {a a′ c c′ : ℕ → ℕ} (w : Gathered m n p may may′ a a′ c c′)
     (f : ℕ → ℕ → ℕ) where
-
   -- a flow by position is a flow by task
   pub gathered-flow : Flow (size m p) n may′ a′ c′ f → Flow m n may (λ j. cond (p j) (a j) 0) c (scattered p f)
   gathered-flow g =
       record {
-          only = λ j s i l y. elim (cases-bool (p j)) [
-              inl k ↦ (let v = g .only (size j p) s (gather-below m p j i k) l in let x = w .allowed j s i l k in grind arith)
-              | inr z ↦ grind arith
-          ];
-          rows = λ j i. elim (cases-bool (p j)) [
-              inl k ↦
-                  (let v = g .rows (size j p) (gather-below m p j i k) in
-                  let x = w .supplied j i k in
-                  let y = scattered-row n p f j in
-                  grind arith)
-              | inr z ↦ (let y = scattered-row n p f j in grind arith)
-          ];
-          columns = λ s l. rw (scattered-column m p f s) (rw (w .borne s l) at (g .columns s l))
+        only = λ j s i l y. elim (cases-bool (p j)) [
+          | inl k ↦ (let v = g .only (size j p) s (gather-below m p j i k) l in let x = w .allowed j s i l k in grind arith)
+          | inr z ↦ grind arith
+        ];
+        rows = λ j i. elim (cases-bool (p j)) [
+          | inl k ↦
+              (let v = g .rows (size j p) (gather-below m p j i k) in
+              let x = w .supplied j i k in
+              let y = scattered-row n p f j in
+              grind arith)
+          | inr z ↦ (let y = scattered-row n p f j in grind arith)
+        ];
+        columns = λ s l. rw (scattered-column m p f s) (rw (w .borne s l) at (g .columns s l));
       }
 
   -- with all of each task, if so by position
   pub gathered-whole : Whole (size m p) n a′ f → Whole m n (λ j. cond (p j) (a j) 0) (scattered p f)
   gathered-whole g j i =
       elim (cases-bool (p j)) [
-          inl k ↦
-              (let v = g (size j p) (gather-below m p j i k) in
-              let x = w .supplied j i k in
-              let y = scattered-row n p f j in
-              grind arith)
-          | inr z ↦ (let y = scattered-row n p f j in grind arith)
+        | inl k ↦
+            (let v = g (size j p) (gather-below m p j i k) in
+            let x = w .supplied j i k in
+            let y = scattered-row n p f j in
+            grind arith)
+        | inr z ↦ (let y = scattered-row n p f j in grind arith)
       ]
 
   -- a set that is roomy and closed by task is so by position
@@ -110,13 +109,13 @@ module _
   gathered-closed : (v : ℕ → Bool) → Closed m n may (scattered p f) v → Closed (size m p) n may′ f v
   gathered-closed v r =
       record {
-          back = λ i s t k l l′ y vt o.
-              let g = gather-pick m p i k in
-              let x = w .allowed (g .0) t (g .1) l′ (g .2) in
-              let e : may (g .0) t ≡ true = sym x ∙ (ap (λ b. may′ b t) (g .3) ∙ y) in
-              let y′ = g .2 in
-              let o′ : 0 < f (size (g .0) p) s = rw (g .3) o in
-              r .back (g .0) s t (g .1) l l′ e vt (grind arith)
+        back = λ i s t k l l′ y vt o.
+            let g = gather-pick m p i k in
+            let x = w .allowed (g .0) t (g .1) l′ (g .2) in
+            let e : may (g .0) t ≡ true = sym x ∙ (ap (λ b. may′ b t) (g .3) ∙ y) in
+            let y′ = g .2 in
+            let o′ : 0 < f (size (g .0) p) s = rw (g .3) o in
+            r .back (g .0) s t (g .1) l l′ e vt (grind arith);
       }
 
   -- and the other way round
@@ -124,18 +123,18 @@ module _
       (u : ℕ → Bool) → Reaches (size m p) n may′ c′ f u → Reaches m n may c (scattered p f) u
   gathered-reaches u r =
       record {
-          roomy = record { room = λ s l o. r .roomy .room s l (rw (w .borne s l) (rw (scattered-column m p f s) at o)) };
-          closed = record {
-              back = λ j s t i l l′ y ut o.
-                  elim (cases-bool (p j)) [
-                      inl k ↦
-                          (let x = w .allowed j t i l′ k in
-                          let o′ : 0 < f (size j p) s = grind arith in
-                          r .closed .back (size j p) s t (gather-below m p j i k) l l′ (x ∙ y) ut o′)
-                      | inr z ↦ absurd (grind arith)
-                  ]
-          };
-          least = λ v rv cv. r .least v (gathered-roomy v rv) (gathered-closed v cv)
+        roomy = record { room = λ s l o. r .roomy .room s l (rw (w .borne s l) (rw (scattered-column m p f s) at o)) };
+        closed = record {
+          back = λ j s t i l l′ y ut o.
+              elim (cases-bool (p j)) [
+                | inl k ↦
+                    (let x = w .allowed j t i l′ k in
+                    let o′ : 0 < f (size j p) s = grind arith in
+                    r .closed .back (size j p) s t (gather-below m p j i k) l l′ (x ∙ y) ut o′)
+                | inr z ↦ absurd (grind arith)
+              ];
+        };
+        least = λ v rv cv. r .least v (gathered-roomy v rv) (gathered-closed v cv);
       }
 
   -- so a largest flow by position is one by task, with the same reach
@@ -144,17 +143,17 @@ module _
   gathered-largest u g =
       largest (gathered-flow (g .flow)) (gathered-reaches u (g .reaches))
       (λ j i y. elim (cases-bool (p j)) [
-          inl k ↦
-              (let r = any-some n (both (may j) u) y in
-              let x = w .allowed j (r .0) i (r .1) k in
-              let r2 = r .2 in
-              let e : meets n (may′ (size j p)) u ≡ true =
-                  any-has n (both (may′ (size j p)) u) (r .0) (r .1) (grind arith) in
-              let v = g .shipped (size j p) (gather-below m p j i k) e in
-              let x′ = w .supplied j i k in
-              let y′ = scattered-row n p f j in
-              grind arith)
-          | inr z ↦ (let y′ = scattered-row n p f j in grind arith)
+        | inl k ↦
+            (let r = any-some n (both (may j) u) y in
+            let x = w .allowed j (r .0) i (r .1) k in
+            let r2 = r .2 in
+            let e : meets n (may′ (size j p)) u ≡ true =
+            any-has n (both (may′ (size j p)) u) (r .0) (r .1) (grind arith) in
+            let v = g .shipped (size j p) (gather-below m p j i k) e in
+            let x′ = w .supplied j i k in
+            let y′ = scattered-row n p f j in
+            grind arith)
+        | inr z ↦ (let y′ = scattered-row n p f j in grind arith)
       ])
 
   -- a task short by position is short as a task
@@ -176,11 +175,11 @@ pub gather-put :
     (i : ℕ) → i < j + 1 → p i ≡ true → getD (set xs k (g j)) (size i p) d ≡ g i
 gather-put p j k xs d g e l y h i m z =
     elim (cases-eq i j) [
-        inl f ↦ rw f (rw (← e) (getD-set-same xs k (g j) d l))
-        | inr f ↦
-            (let m′ : i < j = omega arith in
-            let b = gather-below j p i m′ z in
-            getD-set-other xs k (size i p) (g j) d (λ v. omega arith) ∙ h i m′ z)
+      | inl f ↦ rw f (rw (← e) (getD-set-same xs k (g j) d l))
+      | inr f ↦
+          (let m′ : i < j = omega arith in
+          let b = gather-below j p i m′ z in
+          getD-set-other xs k (size i p) (g j) d (λ v. omega arith) ∙ h i m′ z)
     ]
 
 -- a number that is no member adds none
@@ -189,6 +188,6 @@ pub gather-skip :
     (i : ℕ) → i < j + 1 → p i ≡ true → P i
 gather-skip p P j n h i m y =
     elim (cases-eq i j) [
-        inl f ↦ absurd (both-ways (p j) n (rw f at y))
-        | inr f ↦ h i (omega arith) y
+      | inl f ↦ absurd (both-ways (p j) n (rw f at y))
+      | inr f ↦ h i (omega arith) y
     ]

@@ -35,11 +35,11 @@ gathered :
     (within hours (replicate 96 p))
 gathered ts t hours p q k rows supply w e =
     record {
-        allowed = λ j s i l y.
-            ap (λ h. has h s) (getD-take k rows (size j t) blank (rw e (gather-below (length ts) t j i y)) ∙ w .allowed j i y);
-        supplied = λ j i y.
-            getD-take k supply (size j t) 0 (rw e (gather-below (length ts) t j i y)) ∙ w .supplied j i y;
-        borne = λ s l. ap (λ v. cond (has hours s) v 0) (getD-replicate 96 s p 0 l)
+      allowed = λ j s i l y.
+          ap (λ h. has h s) (getD-take k rows (size j t) blank (rw e (gather-below (length ts) t j i y)) ∙ w .allowed j i y);
+      supplied = λ j i y.
+          getD-take k supply (size j t) 0 (rw e (gather-below (length ts) t j i y)) ∙ w .supplied j i y;
+      borne = λ s l. ap (λ v. cond (has hours s) v 0) (getD-replicate 96 s p 0 l);
     }
 
 -- what a flow of the first k says, where they are read as a part of their lists
@@ -53,7 +53,7 @@ pub poured :
 poured k k′ e rows supply hours p net work o r n l s h =
     let P : ℕ → Type 0 = λ v. fitting (length (take v rows)) (length (take v supply)) n ≡ false in
     let Q : ℕ → Filled → Type 0 = λ v x. (fitting (length (take v rows)) (length (take v supply)) n ≡ true)
-        × Outcome (length (take v supply)) (permits (take v rows)) (λ i. getD (take v supply) i 0) (within hours (replicate 96 p)) (flow net work) x in
+    × Outcome (length (take v supply)) (permits (take v rows)) (λ i. getD (take v supply) i 0) (within hours (replicate 96 p)) (flow net work) x in
     let a : Cases o (P k) (Q k) = subst (λ v. Cases o (P v) (Q v)) e h in
     let b : Q k r = subst (λ v. Cases v (P k) (Q k)) s a in
     subst (λ m. Outcome m (permits (take k rows)) (λ i. getD (take k supply) i 0) (within hours (replicate 96 p)) (flow net work) r)
@@ -68,25 +68,25 @@ pub shipped :
 shipped ts t hours level k rows supply net work Whole lev w e f =
     let g = gathered ts t hours (level .num) (level .den) k rows supply w e in
     record {
-        level = lev;
-        flow =
-            gathered-flow g (flow net work)
-            (subst
-            (λ v. Flow v 96 (permits (take k rows)) (λ i. getD (take k supply) i 0) (within hours (replicate 96 (level .num))) (flow net work))
-            e (f .0));
-        whole = gathered-whole g (flow net work) (subst (λ v. F.Whole v 96 (λ i. getD (take k supply) i 0) (flow net work)) e (f .1))
+      level = lev;
+      flow =
+          gathered-flow g (flow net work)
+          (subst
+          (λ v. Flow v 96 (permits (take k rows)) (λ i. getD (take k supply) i 0) (within hours (replicate 96 (level .num))) (flow net work))
+          e (f .0));
+      whole = gathered-whole g (flow net work) (subst (λ v. F.Whole v 96 (λ i. getD (take k supply) i 0) (flow net work)) e (f .1));
     }
 shipped ts t hours level k rows supply net work (Cut u) lev w e f =
     let g = gathered ts t hours (level .num) (level .den) k rows supply w e in
     let s = gathered-short g (flow net work) (f .1 .0) (rw e at (f .1 .1)) (f .1 .2) in
     record {
-        level = lev;
-        largest =
-            gathered-largest g (flow net work) (has u)
-            (subst
-            (λ v. Largest v 96 (permits (take k rows)) (λ i. getD (take k supply) i 0) (within hours (replicate 96 (level .num))) (flow net work) (has u))
-            e (f .0));
-        task = s .0;
-        within = s .1;
-        short = s .2
+      level = lev;
+      largest =
+          gathered-largest g (flow net work) (has u)
+          (subst
+          (λ v. Largest v 96 (permits (take k rows)) (λ i. getD (take k supply) i 0) (within hours (replicate 96 (level .num))) (flow net work) (has u))
+          e (f .0));
+      task = s .0;
+      within = s .1;
+      short = s .2;
     }

@@ -17,14 +17,14 @@ labelled : (n z : ℕ) (at : ℕ → ℕ) → sum z (λ i. size n (is at i)) ≤
 labelled n z at =
     let a = sum-swap z n (λ i s. cond (is at i s) 1 0) in
     let b =
-        sum-bound n (λ s. sum z (λ i. cond (is at i s) 1 0)) 1
-        (λ s l. elim (cases-lt (at s) z) [
-            inl k ↦
-                (let w = sum-one z (λ i. cond (is at i s) 1 0) (at s) k (λ i v ne. grind (arith, tells)) in
-                grind (arith, tells))
-            | inr k ↦
-                (let w = sum-zero z (λ i. cond (is at i s) 1 0) (λ i v. grind (arith, tells)) in omega arith)
-        ]) in
+    sum-bound n (λ s. sum z (λ i. cond (is at i s) 1 0)) 1
+    (λ s l. elim (cases-lt (at s) z) [
+      | inl k ↦
+          (let w = sum-one z (λ i. cond (is at i s) 1 0) (at s) k (λ i v ne. grind (arith, tells)) in
+          grind (arith, tells))
+      | inr k ↦
+          (let w = sum-zero z (λ i. cond (is at i s) 1 0) (λ i v. grind (arith, tells)) in omega arith)
+    ]) in
     omega (arith, a, b)
 
 -- there are e numbers below e
@@ -40,15 +40,20 @@ live e t i = ltb i e || leb t i
 live-many : (e t z : ℕ) → e ≤ t → t ≤ z → e + z ≤ size z (live e t) + t
 live-many e t z a b =
     let w =
-        sum-le z (λ i. 1 + cond (ltb i e) 1 0) (λ i. cond (live e t i) 1 0 + cond (ltb i t) 1 0) (λ i l. grind (arith, tells)) in
-    omega
-    (arith, w, sum-add z (λ i. 1) (λ i. cond (ltb i e) 1 0), sum-add z (λ i. cond (live e t i) 1 0) (λ i. cond (ltb i t) 1 0)
-    , sum-const z 1, size-below e z (omega arith), size-below t z b)
+    sum-le z (λ i. 1 + cond (ltb i e) 1 0) (λ i. cond (live e t i) 1 0 + cond (ltb i t) 1 0) (λ i l. grind (arith, tells)) in
+    omega (
+      arith,
+      w,
+      sum-add z (λ i. 1) (λ i. cond (ltb i e) 1 0),
+      sum-add z (λ i. cond (live e t i) 1 0) (λ i. cond (ltb i t) 1 0),
+      sum-const z 1,
+      size-below e z (omega arith),
+      size-below t z b,
+    )
 
 module _
     {m n : ℕ} {may : ℕ → ℕ → Bool} {units of at num den : ℕ → ℕ} {e t z : ℕ}
     (w : Stack m n may units of at num den e t z) where
-
   pub some-size : (i : ℕ) → i < z → (e ≤ i → t ≤ i) → 0 < size n (is at i)
   some-size i l k =
       let r = w .some i l k in size-has n (is at i) (r .0) (r .1) (eq-eqb (at (r .0)) i (r .2))
@@ -66,5 +71,5 @@ module _
   pub fewer : t < z → 1 < size n (is at t) → e + z < t + n
   fewer l k =
       let a =
-          sum-lt z (λ i. cond (live e t i) 1 0) (λ i. size n (is at i)) live-size t l (grind (arith, tells)) in
+      sum-lt z (λ i. cond (live e t i) 1 0) (λ i. size n (is at i)) live-size t l (grind (arith, tells)) in
       omega (arith, a, labelled n z at, live-many e t z (w .found) (w .ends))

@@ -18,7 +18,7 @@ use Rattle.level.specs.Stack.{is}
 -- of the first n tasks, those with the label top that may use no hour of u have the label below
 pub record Freed (ts : List Task) (top : ℕ) (u : ℕ → Bool) (n : ℕ) (of of′ : List ℕ) : Type 0 where
   pub done :
-    (j : ℕ) → j < n → label of′ j ≡ cond (without (is (label of) top) (open-to 96 (may ts) u) j) (top - 1) (label of j)
+      (j : ℕ) → j < n → label of′ j ≡ cond (without (is (label of) top) (open-to 96 (may ts) u) j) (top - 1) (label of j)
   pub rest : (j : ℕ) → n ≤ j → label of′ j ≡ label of j
 
 -- of the first n tasks, those with the label a have the label b
@@ -32,7 +32,7 @@ pub record Split (ts : List Task) (u : ℕ → Bool) (p p′ : Parts) : Type 0 w
   pub found : p′ .found ≡ p .found
   pub levels : p′ .levels ≡ p .levels
   pub tasks :
-    (j : ℕ) → j < length ts → label (p′ .of) j ≡ cond (without (top-tasks p) (open-to 96 (may ts) u) j) (p′ .top) (label (p .of) j)
+      (j : ℕ) → j < length ts → label (p′ .of) j ≡ cond (without (top-tasks p) (open-to 96 (may ts) u) j) (p′ .top) (label (p .of) j)
   pub dense : (s : ℕ) → has (getD (p′ .hours) (p′ .top) blank) s ≡ without (top-hours p) u s
   pub other : (s : ℕ) → has (getD (p′ .hours) (p .top) blank) s ≡ both (top-hours p) u s
   pub rest : (i : ℕ) → (i ≡ p .top → ⊥) → (i ≡ p′ .top → ⊥) → getD (p′ .hours) i blank ≡ getD (p .hours) i blank

@@ -1,12 +1,13 @@
 -- What a plan of a night promises. Assumes nothing: these are definitions.
 use mathlib.Core.Path.{_≡_}
-use mathlib.Core.Bool.{true, cond}
+use mathlib.Core.Bool.{true, cond, _&&_}
 use mathlib.Core.List.{List}
 use Prim.Native.Nat.{ℕ, suc, _+_, _*_, _≤_, _<_}
-use lib.Dec.{ltb}
+use lib.Dec.{eqb, ltb}
 use lib.ListN.{length, getD}
 use Rattle.fraction.specs.Fraction.{Coprime}
 use Rattle.night.specs.declared.night.Night.{Night}
+use Rattle.night.specs.Hours.{has, blank}
 use Rattle.night.specs.Night.{hours-of, tasks-of}
 use Rattle.night.specs.Task.{may}
 use Rattle.even.specs.Day.{Plan, Even, load}
@@ -18,8 +19,8 @@ use Rattle.even.specs.Whole.{whole}
 use Rattle.level.specs.declared.levels.Levels.{Levels}
 use Rattle.level.specs.declared.short.Short.{Short}
 use Rattle.level.specs.declared.short.Short.the-variants.{Plan as NoPlan, Work as NoWork}
-use Rattle.level.specs.Load.{group-at}
-use Rattle.level.specs.Parts.{num, den, label, amount}
+use Rattle.level.specs.Load.{group-at, level-at, Same}
+use Rattle.level.specs.Parts.{nought, num, den, label, amount}
 use Rattle.level.specs.Walk.{Behind}
 
 -- how long the lent slices must be: a row of 96 for each task
@@ -46,19 +47,29 @@ pub record Solved (night : Night) (r : Levels) (plan plan′ work work′ : List
   pub least : (e : ℕ) (z : ℕ → ℕ → ℕ) → Plan (day-of night) e z → As-even (day-of night) whole (shares r plan′) e z
   pub lowest : (e : ℕ) (z : ℕ → ℕ → ℕ) → Plan (day-of night) e z → As-low (day-of night) whole (shares r plan′) e z
   pub cheapest :
-    (p : ℕ → ℕ) → ((k : ℕ) → p k ≤ p (suc k)) → (e : ℕ) (z : ℕ → ℕ → ℕ) → Plan (day-of night) e z →
-    As-cheap p (day-of night) whole (shares r plan′) e z
-  -- the loads are those of the plan, exactly
+      (p : ℕ → ℕ) → ((k : ℕ) → p k ≤ p (suc k)) → (e : ℕ) (z : ℕ → ℕ → ℕ) → Plan (day-of night) e z →
+      As-cheap p (day-of night) whole (shares r plan′) e z
+  -- the loads are those of the plan, exactly; past the hours of the night they are 0
   pub loads : (s : ℕ) → s < hours-of night → load (day-of night) (shares r plan′) s * den (r .loads) s ≡ num (r .loads) s * whole
+  pub idle : (s : ℕ) → hours-of night ≤ s → s < 96 → (num (r .loads) s ≡ 0) × (den (r .loads) s ≡ 1)
+  pub long : length (r .loads) ≡ 96
+  -- the load of an hour of a group is written as the group's level is, and that of any other hour as 0
+  pub written : (s : ℕ) → s < hours-of night → Same (getD (r .loads) s nought) (level-at (r .count) (r .groups) (r .levels) s)
   -- levels fall strictly from group to group; each task is of a group, is done in hours of it only, and all hours of it have its level
   pub groups : Grouped (day-of night) (r .count) (num (r .levels)) (den (r .levels)) (label (r .of)) (hour-group r) (amount plan′)
   -- each group is the densest of what is left when it is found, of equals the one with the most hours
   pub densest :
-    (g : ℕ) → g < r .count → Densest (day-of night) (num (r .levels)) (den (r .levels)) (label (r .of)) (hour-group r) g
-  -- an hour of a group is one in which a task of the group may be done
+      (g : ℕ) → g < r .count → Densest (day-of night) (num (r .levels)) (den (r .levels)) (label (r .of)) (hour-group r) g
+  -- each group has an hour, and its hours are those of it, in each of which a task of the group may be done; each task may use an hour of its group
+  pub some : (g : ℕ) → g < r .count → (s : ℕ) × (s < hours-of night) × (hour-group r s ≡ g)
+  pub sets :
+      (g s : ℕ) → g < r .count → has (getD (r .groups) g blank) s ≡ (ltb s (hours-of night) && eqb (hour-group r s) g)
   pub used :
-    (s : ℕ) → s < hours-of night → hour-group r s < r .count →
-    (j : ℕ) × (j < length (tasks-of night)) × (may (tasks-of night) j s ≡ true) × (label (r .of) j ≡ hour-group r s)
+      (s : ℕ) → s < hours-of night → hour-group r s < r .count →
+      (j : ℕ) × (j < length (tasks-of night)) × (may (tasks-of night) j s ≡ true) × (label (r .of) j ≡ hour-group r s)
+  pub mine :
+      (j : ℕ) → j < length (tasks-of night) →
+      (s : ℕ) × (s < hours-of night) × (may (tasks-of night) j s ≡ true) × (hour-group r s ≡ label (r .of) j)
   -- levels are in lowest terms, over at most 96
   pub small : (g : ℕ) → g < r .count → den (r .levels) g ≤ 96
   pub terms : (g : ℕ) → g < r .count → Coprime (num (r .levels) g) (den (r .levels) g)

@@ -11,7 +11,7 @@ use Rattle.level.specs.declared.parts.Parts.{Parts}
 use Rattle.level.specs.Parts.{Ready, Held}
 
 -- tasks that may use hours below n only
-pub record Short (n : ℕ) (ts : List Task) : Type 0 where
+pub record Within (n : ℕ) (ts : List Task) : Type 0 where
   pub ready : Ready ts
   pub few : n ≤ 96
   pub low : (j s : ℕ) → j < length ts → may ts j s ≡ true → s < n

@@ -2,7 +2,7 @@
 mod crew;
 pub mod levels;
 mod load;
-pub mod parts;
+mod parts;
 mod plan;
 mod rows;
 mod ship;

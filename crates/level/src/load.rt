@@ -25,7 +25,8 @@ fn load_at(parts: &Parts, s: usize) -> Fraction
 pub fn loads(parts: &Parts) -> [Fraction; 96]
     requires found { ⌜ now parts .found ≤ 96 ⌝ }
     requires groups { ⌜ length (now parts .levels) ≡ 96 ⌝ }
-    ensures { λ r. ⌜ ((s : ℕ) → s < 96 → Same (getD r s nought) (level-at (now (parts .entry) .found) (now (parts .entry) .hours) (now (parts .entry) .levels) s)) ⌝ }
+    ensures long { λ r. ⌜ length r ≡ 96 ⌝ }
+    ensures same { λ r. ⌜ ((s : ℕ) → s < 96 → Same (getD r s nought) (level-at (now (parts .entry) .found) (now (parts .entry) .hours) (now (parts .entry) .levels) s)) ⌝ }
 {
     let mut all = [Fraction::zero(); 96];
     for s in 0..96 {

@@ -20,11 +20,9 @@ pub fn length_needed(night: &Night) -> usize
 // Finds the groups of a night, the highest level first, and the loads of its hours, and writes the amounts into the plan: row j, from 96 j on,
 // has those of task j, over the denominator of its group's level. Refused, with nothing changed, are slices that are too short.
 pub fn plan_night(night: &Night, plan: &mut [u64], work: &mut [u64]) -> Result<Levels, Short>
-    ensures {
-        λ r. ⌜ Cases r
-            (λ v. Solved (now (night .entry)) v (now (plan .entry)) (now (plan .exit)) (now (work .entry)) (now (work .exit)))
-            (λ e. Refused (now (night .entry)) e (now (plan .entry)) (now (plan .exit)) (now (work .entry)) (now (work .exit))) ⌝
-    }
+    ensures { λ r. ⌜ Cases r
+        (λ v. Solved (now (night .entry)) v (now (plan .entry)) (now (plan .exit)) (now (work .entry)) (now (work .exit)))
+        (λ e. Refused (now (night .entry)) e (now (plan .entry)) (now (plan .exit)) (now (work .entry)) (now (work .exit))) ⌝ }
 {
     let need = length_needed(night);
     if plan.len() < need {

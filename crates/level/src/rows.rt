@@ -30,7 +30,11 @@ fn place(plan: &mut [u64], j: usize, work: &[u64], i: usize, marks: Hours)
     ensures before { λ _. ⌜ ((k : ℕ) → k < j * 96 → getD (now (plan .exit)) k 0 ≡ getD (now (plan .entry)) k 0) ⌝ }
     ensures after { λ _. ⌜ ((k : ℕ) → j * 96 + 96 ≤ k → getD (now (plan .exit)) k 0 ≡ getD (now (plan .entry)) k 0) ⌝ }
 {
-    write(&mut plan[j * 96..j * 96 + 96], &work[i * 96..i * 96 + 96], marks);
+    write(
+        &mut plan[j * 96..j * 96 + 96],
+        &work[i * 96..i * 96 + 96],
+        marks,
+    );
 }
 
 // Writes what the n tasks of the part on top ship into their rows of the plan.

@@ -20,7 +20,15 @@ use night::hours::Hours;
 use night::task::Task;
 
 // Ships as much as fits of the first k tasks gathered into the hours, at most p in each.
-fn pour(may: &[Hours], supply: &[u64], k: usize, hours: Hours, p: u64, net: &mut Net, work: &mut [u64]) -> Filled
+fn pour(
+    may: &[Hours],
+    supply: &[u64],
+    k: usize,
+    hours: Hours,
+    p: u64,
+    net: &mut Net,
+    work: &mut [u64],
+) -> Filled
     requires few { ⌜ k ≤ 200 ⌝ }
     requires rows { ⌜ length (now may) ≡ 200 ⌝ }
     requires supplies { ⌜ length (now supply) ≡ 200 ⌝ }
@@ -32,7 +40,14 @@ fn pour(may: &[Hours], supply: &[u64], k: usize, hours: Hours, p: u64, net: &mut
 }
 
 // Ships as much of the part on top as fits under its level.
-pub fn ship(tasks: &[Task], parts: &Parts, level: Fraction, crew: &mut Crew, net: &mut Net, work: &mut [u64]) -> Filled
+pub fn ship(
+    tasks: &[Task],
+    parts: &Parts,
+    level: Fraction,
+    crew: &mut Crew,
+    net: &mut Net,
+    work: &mut [u64],
+) -> Filled
     requires ready { ⌜ Ready (now tasks) ⌝ }
     requires top { ⌜ Top (now parts) ⌝ }
     requires level { ⌜ Levels (length (now tasks)) 96 (units (now tasks)) (top-tasks (now parts)) (top-hours (now parts)) (level .num) (level .den) ⌝ }

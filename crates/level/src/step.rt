@@ -17,7 +17,14 @@ use flow::net::Net;
 use night::task::Task;
 
 // All of the part on top fits under its level: it is taken as the next group, and its amounts are written into the plan. Else it is split.
-pub fn step(tasks: &[Task], parts: &mut Parts, crew: &mut Crew, net: &mut Net, plan: &mut [u64], work: &mut [u64]) -> bool
+pub fn step(
+    tasks: &[Task],
+    parts: &mut Parts,
+    crew: &mut Crew,
+    net: &mut Net,
+    plan: &mut [u64],
+    work: &mut [u64],
+) -> bool
     requires ready { ⌜ Ready (now tasks) ⌝ }
     requires sized { ⌜ Sized (now crew) ⌝ }
     requires plan { ⌜ length (now tasks) * 96 ≤ length (now plan) ⌝ }

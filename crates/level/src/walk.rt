@@ -2,7 +2,7 @@
 ghost use mathlib.Core.Path.{_≡_};
 ghost use Prim.Native.Nat.{_*_, _≤_};
 ghost use lib.ListN.{length};
-ghost use Rattle.level.specs.Walk.{Short, Walking};
+ghost use Rattle.level.specs.Walk.{Within, Walking};
 use crate::crew::Crew;
 use crate::parts::Parts;
 use crate::start::start;
@@ -20,7 +20,7 @@ pub struct Walked {
 
 // Finds the groups of tasks, the highest level first, and writes their amounts into the plan.
 pub fn walk(hours: usize, tasks: &[Task], plan: &mut [u64], work: &mut [u64]) -> Walked
-    requires short { ⌜ Short hours (now tasks) ⌝ }
+    requires short { ⌜ Within hours (now tasks) ⌝ }
     requires plan { ⌜ length (now tasks) * 96 ≤ length (now plan) ⌝ }
     requires work { ⌜ length (now tasks) * 96 ≤ length (now work) ⌝ }
     ensures walked { λ r. ⌜ Walking hours (now (tasks .entry)) (r .parts) (r .flows) (r .longest) (now (plan .entry)) (now (plan .exit)) (now (work .entry)) (now (work .exit)) ⌝ }
@@ -43,5 +43,9 @@ pub fn walk(hours: usize, tasks: &[Task], plan: &mut [u64], work: &mut [u64]) ->
         }
         unreachable()
     }
-    Walked { parts, flows, longest }
+    Walked {
+        parts,
+        flows,
+        longest,
+    }
 }

@@ -23,7 +23,7 @@ own n cs h us ws e f made =
 pub unreachable-requires : need.unreachable-requires
 unreachable-requires c κs =
     let o = own (c .args .night .now) (c .args .row .now) _ _ _ (c .hours-hours .ensures)
-        (c .in-Continue-tasks .ensures tt .made .0 ∙ c .tasks .ensures) (c .in-Continue-make-all .ensures tt) in
+    (c .in-Continue-tasks .ensures tt .made .0 ∙ c .tasks .ensures) (c .in-Continue-make-all .ensures tt) in
     c .in-None .ensures tt
     (subst (λ k. Sound k (vec-items (c .make-all .last .tasks))) (sym (c .hours-hours .ensures))
     (subst (λ (ts : List Task). Sound (hours-of (c .args .night .now)) ts) (sym (o .1)) (sound-after (c .args .night .now) (c .args .row .now) (o .0))))
@@ -31,6 +31,6 @@ unreachable-requires c κs =
 pub returns : need.returns
 returns c =
     let o = own (c .args .night .now) (c .args .row .now) _ _ _ (c .hours-hours .ensures)
-        (c .in-Continue-tasks .ensures tt .made .0 ∙ c .tasks .ensures) (c .in-Continue-make-all .ensures tt) in
+    (c .in-Continue-tasks .ensures tt .made .0 ∙ c .tasks .ensures) (c .in-Continue-make-all .ensures tt) in
     changed (c .args .night .now) (c .args .row .now) (o .0) (c .in-Some .changed)
     (c .in-Some .ensures tt .0 ∙ c .hours-hours .ensures) (c .in-Some .ensures tt .1 ∙ o .1)

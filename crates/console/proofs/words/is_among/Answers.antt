@@ -12,12 +12,12 @@ use Rattle.console.proofs.words.is_among.Needs as need
 pub loop-w-again : need.loop-w-again
 loop-w-again c = λ k l h.
     elim (cases-eq k (c .loop-w .w-index)) [
-        inl e ↦
-            (let here : c .w-item .result ≡ getD (vec-items (c .args .words .now)) (c .loop-w .w-index) (c .w-item .result) =
-                c .w-item .is ∙ ap (λ xs. getD xs (c .loop-w .w-index) (c .w-item .result)) (c .deref-w-items .ensures .value) in
-            let same = c .as-str .ensures .value ∙ (ap string-bytes here ∙ (ap (λ i. string-bytes (getD (vec-items (c .args .words .now)) i (c .w-item .result))) (sym e) ∙ h (c .w-item .result))) in
-            both-ways (c .eq .result) (c .if-eq .left) (c .eq .ensures .1 same))
-        | inr ne ↦ c .loop-w .inv k (omega arith) h
+      | inl e ↦
+          (let here : c .w-item .result ≡ getD (vec-items (c .args .words .now)) (c .loop-w .w-index) (c .w-item .result) =
+          c .w-item .is ∙ ap (λ xs. getD xs (c .loop-w .w-index) (c .w-item .result)) (c .deref-w-items .ensures .value) in
+          let same = c .as-str .ensures .value ∙ (ap string-bytes here ∙ (ap (λ i. string-bytes (getD (vec-items (c .args .words .now)) i (c .w-item .result))) (sym e) ∙ h (c .w-item .result))) in
+          both-ways (c .eq .result) (c .if-eq .left) (c .eq .ensures .1 same))
+      | inr ne ↦ c .loop-w .inv k (omega arith) h
     ]
 
 pub returns : need.returns

@@ -1,6 +1,6 @@
-use mathlib.Core.Path.{_≡_, refl, sym, _∙_, ap}
+use mathlib.Core.Path.{_≡_, refl, sym}
 use mathlib.Core.Bool.{true, false}
-use mathlib.Core.Logic.{inl, inr}
+use mathlib.Core.Logic.{inr}
 use Prim.Native.Nat.{_+_, _*_, _-_, _<_}
 use native.Mathlib.Omega.{arith}
 use lib.ListN.{length, getD, set}
@@ -27,16 +27,16 @@ returns-then-contains c =
     let new = cell-marked marks (set work (j * 96 + s) v) j s h in
     let same = getD-set-same work (j * 96 + s) v 0 (c .pre .cells) in
     record {
-        grew =
-            record {
-                at = omega (arith, old, new, same);
-                cells = λ i t lt ne. cell-same marks marks work (set work (j * 96 + s) v) i t refl (write-other marks work j s v (c .pre .hours) i t lt ne);
-                there = omega (arith, room-at rooms s (getD rooms s 0 - c .args .d) lr);
-                rooms = λ t ne. room-other rooms s _ t ne;
-                rest = λ k ne. getD-set-other work (j * 96 + s) k v 0 ne
-            };
-        lefts = refl;
-        marks = λ m w. marks-write m marks marks work j s v (c .pre .hours) (c .pre .cells) w (λ i t on. inr on) (λ on. omega arith)
+      grew =
+          record {
+            at = omega (arith, old, new, same);
+            cells = λ i t lt ne. cell-same marks marks work (set work (j * 96 + s) v) i t refl (write-other marks work j s v (c .pre .hours) i t lt ne);
+            there = omega (arith, room-at rooms s (getD rooms s 0 - c .args .d) lr);
+            rooms = λ t ne. room-other rooms s _ t ne;
+            rest = λ k ne. getD-set-other work (j * 96 + s) k v 0 ne;
+          };
+      lefts = refl;
+      marks = λ m w. marks-write m marks marks work j s v (c .pre .hours) (c .pre .cells) w (λ i t on. inr on) (λ on. omega arith);
     }
 
 pub returns-else-contains : need.returns-else-contains
@@ -56,17 +56,17 @@ returns-else-contains c =
     let new = cell-marked marks′ (set work (j * 96 + s) v) j s (insert-at marks j s x lj (c .pre .hours) (c .insert .ensures)) in
     let same = getD-set-same work (j * 96 + s) v 0 (c .pre .cells) in
     record {
-        grew =
-            record {
-                at = omega (arith, old, new, same);
-                cells = λ i t lt ne. cell-same marks marks′ work (set work (j * 96 + s) v) i t (insert-other marks j s x lj (c .pre .hours) (c .insert .ensures) i t ne) (write-other marks work j s v (c .pre .hours) i t lt ne);
-                there = omega (arith, room-at rooms s (getD rooms s 0 - c .args .d) lr);
-                rooms = λ t ne. room-other rooms s _ t ne;
-                rest = λ k ne. getD-set-other work (j * 96 + s) k v 0 ne
-            };
-        lefts = refl;
-        marks =
-            λ m w. marks-write m marks marks′ work j s v (c .pre .hours) (c .pre .cells) w
-                (insert-from marks j s x lj (c .pre .hours) (c .insert .ensures))
-                (λ on. c .pre .some)
+      grew =
+          record {
+            at = omega (arith, old, new, same);
+            cells = λ i t lt ne. cell-same marks marks′ work (set work (j * 96 + s) v) i t (insert-other marks j s x lj (c .pre .hours) (c .insert .ensures) i t ne) (write-other marks work j s v (c .pre .hours) i t lt ne);
+            there = omega (arith, room-at rooms s (getD rooms s 0 - c .args .d) lr);
+            rooms = λ t ne. room-other rooms s _ t ne;
+            rest = λ k ne. getD-set-other work (j * 96 + s) k v 0 ne;
+          };
+      lefts = refl;
+      marks =
+          λ m w. marks-write m marks marks′ work j s v (c .pre .hours) (c .pre .cells) w
+          (insert-from marks j s x lj (c .pre .hours) (c .insert .ensures))
+          (λ on. c .pre .some);
     }

@@ -1,6 +1,6 @@
-use mathlib.Core.Path.{_≡_, refl, sym, _∙_, ap}
-use mathlib.Core.Bool.{true, false}
-use mathlib.Core.Logic.{inl, inr}
+use mathlib.Core.Path.{_≡_, refl, sym}
+use mathlib.Core.Bool.{true}
+use mathlib.Core.Logic.{inr}
 use Prim.Native.Nat.{_+_, _*_, _-_, _<_}
 use native.Mathlib.Omega.{arith}
 use lib.ListN.{length, getD, set}
@@ -33,19 +33,19 @@ returns-then-work-k-eq0 c =
     let new = cell-bare marks′ (set work (j * 96 + s) v) j s off in
     let same = getD-set-same work (j * 96 + s) v 0 (c .pre .cells) in
     record {
-        fell =
-            record {
-                at = omega (arith, old, new, same);
-                cells = λ i t lt ne. sym (cell-same marks marks′ work (set work (j * 96 + s) v) i t (remove-other marks j s x lj (c .pre .hours) (c .remove .ensures) i t ne) (write-other marks work j s v (c .pre .hours) i t lt ne));
-                there = omega (arith, room-at rooms s (getD rooms s 0 + c .args .d) lr);
-                rooms = λ t ne. sym (room-other rooms s _ t ne);
-                rest = λ k ne. sym (getD-set-other work (j * 96 + s) k v 0 ne)
-            };
-        lefts = refl;
-        marks =
-            λ m w. marks-write m marks marks′ work j s v (c .pre .hours) (c .pre .cells) w
-                (remove-from marks j s x lj (c .pre .hours) (c .remove .ensures))
-                (λ on. absurd (both-ways _ off on))
+      fell =
+          record {
+            at = omega (arith, old, new, same);
+            cells = λ i t lt ne. sym (cell-same marks marks′ work (set work (j * 96 + s) v) i t (remove-other marks j s x lj (c .pre .hours) (c .remove .ensures) i t ne) (write-other marks work j s v (c .pre .hours) i t lt ne));
+            there = omega (arith, room-at rooms s (getD rooms s 0 + c .args .d) lr);
+            rooms = λ t ne. sym (room-other rooms s _ t ne);
+            rest = λ k ne. sym (getD-set-other work (j * 96 + s) k v 0 ne);
+          };
+      lefts = refl;
+      marks =
+          λ m w. marks-write m marks marks′ work j s v (c .pre .hours) (c .pre .cells) w
+          (remove-from marks j s x lj (c .pre .hours) (c .remove .ensures))
+          (λ on. absurd (both-ways _ off on));
     }
 
 pub returns-else-work-k-eq0 : need.returns-else-work-k-eq0
@@ -62,14 +62,14 @@ returns-else-work-k-eq0 c =
     let new = cell-marked marks (set work (j * 96 + s) v) j s h in
     let same = getD-set-same work (j * 96 + s) v 0 (c .pre .cells) in
     record {
-        fell =
-            record {
-                at = omega (arith, old, new, same);
-                cells = λ i t lt ne. sym (cell-same marks marks work (set work (j * 96 + s) v) i t refl (write-other marks work j s v (c .pre .hours) i t lt ne));
-                there = omega (arith, room-at rooms s (getD rooms s 0 + c .args .d) lr);
-                rooms = λ t ne. sym (room-other rooms s _ t ne);
-                rest = λ k ne. sym (getD-set-other work (j * 96 + s) k v 0 ne)
-            };
-        lefts = refl;
-        marks = λ m w. marks-write m marks marks work j s v (c .pre .hours) (c .pre .cells) w (λ i t on. inr on) (λ on. omega (arith, same))
+      fell =
+          record {
+            at = omega (arith, old, new, same);
+            cells = λ i t lt ne. sym (cell-same marks marks work (set work (j * 96 + s) v) i t refl (write-other marks work j s v (c .pre .hours) i t lt ne));
+            there = omega (arith, room-at rooms s (getD rooms s 0 + c .args .d) lr);
+            rooms = λ t ne. sym (room-other rooms s _ t ne);
+            rest = λ k ne. sym (getD-set-other work (j * 96 + s) k v 0 ne);
+          };
+      lefts = refl;
+      marks = λ m w. marks-write m marks marks work j s v (c .pre .hours) (c .pre .cells) w (λ i t on. inr on) (λ on. omega (arith, same));
     }

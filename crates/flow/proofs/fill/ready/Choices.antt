@@ -1,7 +1,7 @@
 use mathlib.Core.Path.{_≡_}
 use mathlib.Core.Bool.{_&&_, not, true, cond}
 use Prim.Native.Nat.{ℕ, _^_, _<_}
-use lib.ListN.{length, getD}
+use lib.ListN.{getD}
 use Rattle.fraction.specs.Sum.{size}
 use Rattle.night.specs.Hours.{has}
 use Rattle.flow.specs.Lent.{room}

@@ -1,6 +1,6 @@
 use mathlib.Core.Path.{_≡_}
 use Prim.Native.Nat.{_-_, _≤_}
-use lib.ListN.{length, getD}
+use lib.ListN.{length}
 use Rattle.fraction.specs.Sum.{size}
 use Rattle.flow.specs.Lent.{layer, Layered}
 use Rattle.flow.proofs.layer.look.Given as given

@@ -1,5 +1,4 @@
 use mathlib.Core.Path.{_≡_}
-use mathlib.Core.Bool.{true, false, not, _&&_, _||_}
 use mathlib.Core.Logic.{inl, inr}
 use native.Mathlib.Omega.{arith}
 use Rattle.std.proofs.shelf.Lists.{getD-past}
@@ -24,38 +23,38 @@ members-less c =
 
 pub members-again : need.members-again
 members-again c = (
-    λ k.
-        let was = c .members .inv .0 k in
-        let gone = c .remove-rest .ensures k in
-        let at = c .in-Some .ensures tt in
-        let inn = c .members .inv .1 (c .in-Some .s) (at .member) in
-        elim (c .if-net-s-gt0 .came) [
-            then-net-s-gt0 w ↦
-                (let more = w .insert-found .ensures k in
-                let pos = w .if-net-s-gt0 .taken in
-                let low = at .below in
-                rw (w .found-is) (elim (cases-eq k (c .in-Some .s)) [ inl e ↦ grind (arith, tells) | inr ne ↦ grind (arith, tells) ]))
-            | else-net-s-gt0 w ↦
-                (let zero = w .if-net-s-gt0 .left in
-                rw (w .found-is) (elim (cases-eq k (c .in-Some .s)) [ inl e ↦ grind (arith, tells) | inr ne ↦ grind (arith, tells) ]))
-        ],
-    λ k h. c .members .inv .1 k (let gone = c .remove-rest .ensures k in grind arith)
+  λ k.
+      let was = c .members .inv .0 k in
+      let gone = c .remove-rest .ensures k in
+      let at = c .in-Some .ensures tt in
+      let inn = c .members .inv .1 (c .in-Some .s) (at .member) in
+      elim (c .if-net-s-gt0 .came) [
+        | then-net-s-gt0 w ↦
+            (let more = w .insert-found .ensures k in
+            let pos = w .if-net-s-gt0 .taken in
+            let low = at .below in
+            rw (w .found-is) (elim (cases-eq k (c .in-Some .s)) [ inl e ↦ grind (arith, tells) | inr ne ↦ grind (arith, tells) ]))
+        | else-net-s-gt0 w ↦
+            (let zero = w .if-net-s-gt0 .left in
+            rw (w .found-is) (elim (cases-eq k (c .in-Some .s)) [ inl e ↦ grind (arith, tells) | inr ne ↦ grind (arith, tells) ]))
+      ],
+  λ k h. c .members .inv .1 k (let gone = c .remove-rest .ensures k in grind arith),
 )
 
 pub returns : need.returns
 returns c =
     record {
-        rooms = λ s.
-            let was = c .members .inv .0 s in
-            let gone = none-any (c .members .rest) (c .in-rest .ensures tt) s in
-            elim (cases-bool (has (c .args .hours) s)) [
-                inl t ↦ grind arith
-                | inr f ↦
-                    (let z : room (c .args .net .now) s ≡ 0 = elim (cases-lt s 96) [
-                        inl l ↦ c .pre .none s l f
-                        | inr ge ↦ getD-past (c .args .net .now .room) s 0 (omega arith)
-                    ] in
-                    grind (arith, tells))
-            ];
-        low = λ s h. let was = c .members .inv .0 s in c .pre .low s (grind arith)
+      rooms = λ s.
+          let was = c .members .inv .0 s in
+          let gone = none-any (c .members .rest) (c .in-rest .ensures tt) s in
+          elim (cases-bool (has (c .args .hours) s)) [
+            | inl t ↦ grind arith
+            | inr f ↦
+                (let z : room (c .args .net .now) s ≡ 0 = elim (cases-lt s 96) [
+                  | inl l ↦ c .pre .none s l f
+                  | inr ge ↦ getD-past (c .args .net .now .room) s 0 (omega arith)
+                ] in
+                grind (arith, tells))
+          ];
+      low = λ s h. let was = c .members .inv .0 s in c .pre .low s (grind arith);
     }

@@ -1,11 +1,9 @@
-use mathlib.Core.Path.{_≡_, refl, sym, _∙_, ap}
-use mathlib.Core.Bool.{true, false}
-use mathlib.Core.Logic.{inl, inr}
-use Prim.Native.Nat.{ℕ, _+_, _*_, _-_, _≤_, _<_}
+use mathlib.Core.Path.{_≡_, sym}
+use mathlib.Core.Bool.{false}
+use Prim.Native.Nat.{_-_, _≤_, _<_}
 use native.Mathlib.Omega.{arith}
-use lib.ListN.{length, getD}
+use lib.ListN.{length}
 use Rattle.std.proofs.shelf.Tests.{both-ways}
-use Rattle.night.specs.Hours.{has, blank}
 use Rattle.flow.specs.Lent.{flow, layer}
 use Rattle.flow.proofs.Paths.{below-within, below-out, some-step, freed-up, freed-more, mark-flow, room-fits, cell-fits}
 use Rattle.flow.proofs.Steps.{shifted-steady, shifted-sound, steady-then}
@@ -14,10 +12,10 @@ use Rattle.flow.proofs.path.+free.Needs as need
 pub returns-then-contains : need.returns-then-contains
 returns-then-contains t c =
     record {
-        some = c .free .ensures .some;
-        freed = freed-up (below-out (c .pre .ways) (omega arith)) (c .free .ensures .freed);
-        sound = c .free .ensures .sound;
-        steady = c .free .ensures .steady
+      some = c .free .ensures .some;
+      freed = freed-up (below-out (c .pre .ways) (omega arith)) (c .free .ensures .freed);
+      sound = c .free .ensures .sound;
+      steady = c .free .ensures .steady;
     }
 
 pub unreachable-requires : need.unreachable-requires
@@ -38,18 +36,18 @@ shift-requires t c κs =
     let lu : u < 96 = c .pre .ways .low (c .args .d - 1) (omega arith) u (step .nearer) in
     let e = c .free-got .ensures in
     let le : got ≤ flow net work j at =
-        omega (arith, e .freed .most, e .freed .kept j at lt out, mark-flow (c .args .net .now) (c .args .work .now) j at (step .flows), c .min-ask .ensures) in
+    omega (arith, e .freed .most, e .freed .kept j at lt out, mark-flow (c .args .net .now) (c .args .work .now) j at (step .flows), c .min-ask .ensures) in
     record {
-        tasks = omega (arith, step .task-in);
-        start = lt;
-        end = lu;
-        apart = λ same. both-ways _ out (rw same (step .nearer));
-        cells = omega (arith, step .task-in);
-        some = e .some;
-        flows = le;
-        roomy = e .freed .ready;
-        back = room-fits (e .sound) j at got (step .task-in) lt le;
-        fits = cell-fits (e .sound) j u got (step .task-in) lu (e .freed .ready)
+      tasks = omega (arith, step .task-in);
+      start = lt;
+      end = lu;
+      apart = λ same. both-ways _ out (rw same (step .nearer));
+      cells = omega (arith, step .task-in);
+      some = e .some;
+      flows = le;
+      roomy = e .freed .ready;
+      back = room-fits (e .sound) j at got (step .task-in) lt le;
+      fits = cell-fits (e .sound) j u got (step .task-in) lu (e .freed .ready);
     }
 
 pub returns : need.returns
@@ -66,10 +64,10 @@ returns t c =
     let e = c .free-got .ensures in
     let g = c .shift .ensures .shifted in
     record {
-        some = e .some;
-        freed =
-            freed-more (below-out (c .pre .ways) pos) (e .freed) g lt (λ same. both-ways _ out (rw same (step .nearer)))
-                (c .pre .member) (below-within (c .pre .ways) pos u (step .nearer)) (c .args .want) (omega (arith, e .freed .most, c .min-ask .ensures));
-        sound = shifted-sound m (step .task-in) lt lu g _ (step .allowed) (e .sound) (c .shift .ensures .marks m);
-        steady = steady-then (e .steady) (shifted-steady m (step .task-in) lt lu g)
+      some = e .some;
+      freed =
+          freed-more (below-out (c .pre .ways) pos) (e .freed) g lt (λ same. both-ways _ out (rw same (step .nearer)))
+          (c .pre .member) (below-within (c .pre .ways) pos u (step .nearer)) (c .args .want) (omega (arith, e .freed .most, c .min-ask .ensures));
+      sound = shifted-sound m (step .task-in) lt lu g _ (step .allowed) (e .sound) (c .shift .ensures .marks m);
+      steady = steady-then (e .steady) (shifted-steady m (step .task-in) lt lu g);
     }

@@ -22,20 +22,22 @@ loop-j-again c =
     let i0 = c .loop-j .inv .0 in
     let i1 = c .loop-j .inv .1 in
     let P : List ℕ → Type 0 = λ v.
-        Written (c .loop-j .j + 1) (top-tasks (c .args .parts .now)) (flow (c .args .net .now) (c .args .work .now)) (c .args .plan .now) v in
+    Written (c .loop-j .j + 1) (top-tasks (c .args .parts .now)) (flow (c .args .net .now) (c .args .work .now)) (c .args .plan .now) v in
     elim (c .if-parts-j .came) [
-        then-parts-j w ↦
-            (let y =
-                eq-eqb (label (c .args .parts .now .of) (c .loop-j .j)) (c .args .parts .now .top) (w .if-parts-j .taken) in
-            let k = w .i-is in
-            (omega arith, grind arith
-            , subst P (sym (w .plan-is))
-            (written-put (c .loop-j .inv .2) (w .place .last .plan) y
-            (λ s l. w .place .ensures .within s l ∙ ap (λ i. cell (c .args .net .now .marks) (c .args .work .now) i s) i1)
-            (w .place .ensures .before) (w .place .ensures .after))))
-        | else-parts-j w ↦
-            (let n =
-                ne-eqb (label (c .args .parts .now .of) (c .loop-j .j)) (c .args .parts .now .top) (w .if-parts-j .left) in
-            let k = w .i-is in
-            (omega arith, grind arith, subst P (sym (w .plan-is)) (written-skip (c .loop-j .inv .2) n)))
+      | then-parts-j w ↦
+          (let y =
+          eq-eqb (label (c .args .parts .now .of) (c .loop-j .j)) (c .args .parts .now .top) (w .if-parts-j .taken) in
+          let k = w .i-is in (
+            omega arith,
+            grind arith,
+            subst P (sym (w .plan-is))
+                (written-put (c .loop-j .inv .2) (w .place .last .plan) y
+                (λ s l. w .place .ensures .within s l ∙ ap (λ i. cell (c .args .net .now .marks) (c .args .work .now) i s) i1)
+                (w .place .ensures .before) (w .place .ensures .after)),
+          ))
+      | else-parts-j w ↦
+          (let n =
+          ne-eqb (label (c .args .parts .now .of) (c .loop-j .j)) (c .args .parts .now .top) (w .if-parts-j .left) in
+          let k = w .i-is in
+          (omega arith, grind arith, subst P (sym (w .plan-is)) (written-skip (c .loop-j .inv .2) n)))
     ]

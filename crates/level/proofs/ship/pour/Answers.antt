@@ -21,9 +21,9 @@ pub returns : need.returns
 returns c =
     let b = length-take-le (c .args .k) (c .args .supply .now) (omega (arith, c .pre .few, c .pre .supplies)) in
     record {
-        poured =
-            poured (c .args .k) (c .args .k - 0) (sub-zero (c .args .k)) (c .args .may .now) (c .args .supply .now) (c .args .hours) (c .args .p)
-            (c .fill .last .net) (c .fill .last .work) (c .fill .result) (c .unwrap .result) _ (omega (arith, c .pre .few, c .pre .supplies))
-            (c .unwrap .ensures) (c .fill .ensures .filled);
-        behind = λ i l. c .fill .ensures .rest i (omega (arith, ap (λ v. v * 96) b))
+      poured =
+          poured (c .args .k) (c .args .k - 0) (sub-zero (c .args .k)) (c .args .may .now) (c .args .supply .now) (c .args .hours) (c .args .p)
+          (c .fill .last .net) (c .fill .last .work) (c .fill .result) (c .unwrap .result) _ (omega (arith, c .pre .few, c .pre .supplies))
+          (c .unwrap .ensures) (c .fill .ensures .filled);
+      behind = λ i l. c .fill .ensures .rest i (omega (arith, ap (λ v. v * 96) b));
     }

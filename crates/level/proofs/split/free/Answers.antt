@@ -22,23 +22,23 @@ loop-j-again c =
     let P : List ℕ → Type 0 = Freed (c .args .tasks .now) top (has (c .args .u)) (j + 1) (c .args .of .now) in
     let keep = freed-more (c .args .tasks .now) top (has (c .args .u)) j (c .args .of .now) (c .loop-j .of) in
     elim (c .if-of-j .came) [
-        then-of-j·then-not-meets w ↦
-            (let y = w .if-of-j .taken in
-            let n = w .meets .ensures in
-            let t = w .if-not-meets .taken in
-            subst P (sym (w .of-is))
-            (keep _ (c .loop-j .inv)
-            (getD-set-same (c .loop-j .of) j (top - 1) 0 (omega (arith, c .pre .labels, c .loop-j-test .taken)) ∙ grind (arith, tells))
-            (λ i ne. getD-set-other (c .loop-j .of) j i (top - 1) 0 ne)))
-        | else-of-j w ↦
-            subst P (sym (w .of-is))
-            (keep (c .loop-j .of) (c .loop-j .inv)
-            (elim (w .else-of-j .came) [
-                else-of-j·by·then-of-j·else-not-meets v ↦
-                    (let n = v .meets .ensures in
-                    let t = v .if-not-meets .left in
-                    grind (arith, tells))
-                | else-of-j·by·else-of-j v ↦ (let n = v .if-of-j .left in grind (arith, tells))
-            ])
-            (λ i ne. refl))
+      | then-of-j·then-not-meets w ↦
+          (let y = w .if-of-j .taken in
+          let n = w .meets .ensures in
+          let t = w .if-not-meets .taken in
+          subst P (sym (w .of-is))
+          (keep _ (c .loop-j .inv)
+          (getD-set-same (c .loop-j .of) j (top - 1) 0 (omega (arith, c .pre .labels, c .loop-j-test .taken)) ∙ grind (arith, tells))
+          (λ i ne. getD-set-other (c .loop-j .of) j i (top - 1) 0 ne)))
+      | else-of-j w ↦
+          subst P (sym (w .of-is))
+          (keep (c .loop-j .of) (c .loop-j .inv)
+          (elim (w .else-of-j .came) [
+            | else-of-j·by·then-of-j·else-not-meets v ↦
+                (let n = v .meets .ensures in
+                let t = v .if-not-meets .left in
+                grind (arith, tells))
+            | else-of-j·by·else-of-j v ↦ (let n = v .if-of-j .left in grind (arith, tells))
+          ])
+          (λ i ne. refl))
     ]

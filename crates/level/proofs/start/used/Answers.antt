@@ -1,7 +1,7 @@
 use mathlib.Core.Path.{_≡_, sym, _∙_, ap}
 use mathlib.Core.Bool.{_||_}
 use Rattle.night.specs.Task.{may}
-use Rattle.level.proofs.Anys.{any-zero, any-more}
+use Rattle.level.proofs.Anys.{any-zero, any-next}
 use Rattle.level.proofs.start.used.Needs as need
 
 pub loop-j-holds : need.loop-j-holds
@@ -11,4 +11,4 @@ pub loop-j-again : need.loop-j-again
 loop-j-again c s =
     c .union-all .ensures s
     ∙ (ap (λ v. v || may (c .args .tasks .now) (c .loop-j .j) s) (c .loop-j .inv s)
-    ∙ sym (any-more (c .loop-j .j) (λ i. may (c .args .tasks .now) i s)))
+    ∙ sym (any-next (c .loop-j .j) (λ i. may (c .args .tasks .now) i s)))

@@ -8,10 +8,15 @@ flows-holds c =
     let w = c .groups .inv .0 in
     let l = c .groups-test .taken in
     let k =
-        state-few (c .args .tasks .now) (c .groups .parts) (c .groups .plan) (c .args .hours) (w .held) l (c .pre .short .low)
-        (c .pre .short .few) in
-    (record { held = w .held; count = w .count; most = w .most; plans = λ i g. refl; works = λ i g. refl }, c .groups .inv .1, refl, refl
-    , l, omega arith)
+    state-few (c .args .tasks .now) (c .groups .parts) (c .groups .plan) (c .args .hours) (w .held) l (c .pre .short .low)
+    (c .pre .short .few) in (
+      record { held = w .held; count = w .count; most = w .most; plans = λ i g. refl; works = λ i g. refl },
+      c .groups .inv .1,
+      refl,
+      refl,
+      l,
+      omega arith,
+    )
 
 pub unreachable-requires : need.unreachable-requires
 unreachable-requires c κs =

@@ -31,13 +31,13 @@ returns c =
     let e = counted p (c .pre .top .low) in
     let k = size-le 96 p in
     let g : Reduced (c .weigh .result) (c .count .result) (c .unwrap .result .num) (c .unwrap .result .den) =
-        subst (λ o. found o (λ x. Reduced (c .weigh .result) (c .count .result) (x .num) (x .den))) (c .unwrap .ensures)
-        (c .reduced .ensures .value) in
+    subst (λ o. found o (λ x. Reduced (c .weigh .result) (c .count .result) (x .num) (x .den))) (c .unwrap .ensures)
+    (c .reduced .ensures .value) in
     let w = c .weigh .ensures .value in
     let n = c .count .ensures in
     record {
-        value =
-            omega
-            (arith, g .equal, ap (λ v. v * c .unwrap .result .den) w, ap (λ v. v * c .unwrap .result .num) (n ∙ e));
-        small = omega (arith, g .below-le, n, e, k)
+      value =
+          omega
+          (arith, g .equal, ap (λ v. v * c .unwrap .result .den) w, ap (λ v. v * c .unwrap .result .num) (n ∙ e));
+      small = omega (arith, g .below-le, n, e, k);
     }

@@ -15,11 +15,11 @@ loop-j-holds c =
 pub loop-j-again : need.loop-j-again
 loop-j-again c =
     let e =
-        sum-more (c .loop-j .j) (λ j. cond (top-tasks (c .args .parts .now) j) (units (c .args .tasks .now) j) 0) in
+    sum-more (c .loop-j .j) (λ j. cond (top-tasks (c .args .parts .now) j) (units (c .args .tasks .now) j) 0) in
     let i = c .loop-j .inv .0 in
     let k = c .loop-j .inv .1 in
     let m = c .pre .ready .light (c .loop-j .j) in
     elim (c .if-parts-j .came) [
-        then-parts-j w ↦ (let y = w .if-parts-j .taken in let a = w .all-is in (grind (arith, tells), grind arith))
-        | else-parts-j w ↦ (let y = w .if-parts-j .left in let a = w .all-is in (grind (arith, tells), grind arith))
+      | then-parts-j w ↦ (let y = w .if-parts-j .taken in let a = w .all-is in (grind (arith, tells), grind arith))
+      | else-parts-j w ↦ (let y = w .if-parts-j .left in let a = w .all-is in (grind (arith, tells), grind arith))
     ]

@@ -1,0 +1,3 @@
+// Networks with known outcomes.
+#[cfg(test)]
+mod tests;

@@ -1,0 +1,12 @@
+pub mod Words
+pub mod Firsts
+pub mod Places
+pub mod Columns
+pub mod ByHour
+pub mod ByTask
+pub mod Slopes
+pub mod Verdicts
+pub mod Puts
+pub mod Writes
+pub mod Accepts
+pub mod Sheeted

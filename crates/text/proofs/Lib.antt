@@ -1,0 +1,10 @@
+pub mod Blaming
+pub mod Clean
+pub mod Entries
+pub mod Going
+pub mod Numbers
+pub mod Passing
+pub mod Pieces
+pub mod Spans
+pub mod Tales
+pub mod Writing

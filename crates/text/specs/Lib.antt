@@ -1,0 +1,12 @@
+pub mod ChangeLine
+pub mod Changes
+pub mod Header
+pub mod Lines
+pub mod Number
+pub mod Piece
+pub mod Reader
+pub mod Span
+pub mod TaskLine
+pub mod Told
+pub mod Unread
+pub mod Written
