@@ -1,3 +1,0 @@
-pub mod Drawing
-pub mod Escaping
-pub mod Lengths
