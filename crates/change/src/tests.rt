@@ -1,4 +1,5 @@
 // Rows of changes on a small night.
+use crate::evening::prepare;
 use crate::kinds::Change;
 use crate::refusal::Refusal;
 use crate::refusal::RefusalDebug;
@@ -89,5 +90,33 @@ fn rows_refused(rt: LibcRuntime) -> Result<(), Fail> {
     check_eq(
         outcome(heap, 1, &[Change::More(1, 1)])?.as_slice(),
         &[999, 0],
+    )
+}
+
+// The loads of the three hours after the row, as numerators over denominators, or nothing where it is refused.
+fn loads(heap: Global, row: &[Change]) -> Result<Vec<(u64, u64)>, Fail> {
+    let night = three_hours(heap, 3)?;
+    let mut all = Vec::new(heap);
+    if let Ok(evening) = prepare(heap, &night, row) {
+        for s in 0..3 {
+            let load = evening.planned.levels.loads[s];
+            all.push((load.num(), load.den()))?;
+        }
+    }
+    Ok(all)
+}
+
+#[test]
+fn gone_and_back(rt: LibcRuntime) -> Result<(), Fail> {
+    let heap = rt.alloc();
+    let back = Change::Comes(task(5, Hours::below(2)));
+    check_eq(loads(heap, &[])?.as_slice(), &[(5, 2), (5, 2), (2, 1)])?;
+    check_eq(
+        loads(heap, &[Change::Goes(0)])?.as_slice(),
+        &[(0, 1), (0, 1), (2, 1)],
+    )?;
+    check_eq(
+        loads(heap, &[Change::Goes(0), back])?.as_slice(),
+        &[(5, 2), (5, 2), (2, 1)],
     )
 }

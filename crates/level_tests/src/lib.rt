@@ -1,0 +1,3 @@
+// Nights with known loads.
+#[cfg(test)]
+mod tests;
