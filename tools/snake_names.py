@@ -90,7 +90,7 @@ def main():
         lines = t.split("\n")
         std, own = set(), set()
         for m in USE.finditer(t):
-            names = re.findall(ID, re.sub(r"\bas\b", " ", m.group(2)))
+            names = re.findall(ID, re.sub(r"\s+as\s+", " ", m.group(2)))
             (own if own_module(m.group(1)) else std).update(n for n in names if n != "as")
         answers = made(lines) if p.endswith(".antt") else set()
         local = set()

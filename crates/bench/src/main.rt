@@ -1,4 +1,6 @@
 // Times the planning of nights and the checking of their sheets: what was found goes to standard output, the times to standard error.
+#![tactic(auto)]
+
 use console::Fault;
 use console::nights::{Form, night_from};
 use console::words::given;

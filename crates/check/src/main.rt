@@ -1,4 +1,6 @@
 // Checks a sheet against a night.
+#![tactic(auto)]
+
 use console::nights::{Form, night_from};
 use console::words::given;
 use console::{Fault, read_input};

@@ -1,4 +1,6 @@
 // What the programs share: reading a file or standard input, writing a file whole or not at all, and the ways in which a program fails.
+#![tactic(auto)]
+
 pub mod nights;
 pub mod words;
 

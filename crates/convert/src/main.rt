@@ -1,4 +1,6 @@
 // Turns a night as people write it into bytes, and back.
+#![tactic(auto)]
+
 use console::nights::{Form, night_from};
 use console::words::{Words, given};
 use console::{Fault, read_input, write_output};

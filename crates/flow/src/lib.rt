@@ -1,4 +1,6 @@
 // How much of the tasks fits into the hours: a largest flow, its cut, and the hours that can still reach room.
+#![tactic(auto)]
+
 mod cell;
 pub mod cut;
 mod drain;

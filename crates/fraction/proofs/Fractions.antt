@@ -4,7 +4,7 @@ use native.Mathlib.Nat.{mul-mod_right, zero-mod, mod_self, mod-zero, dvd-mod_iff
 use Rattle.std.proofs.lemmas.Nat.{mul-lt}
 use Rattle.std.proofs.lemmas.Bool.Decides.{nat_tests}
 use Rattle.std.proofs.lemmas.Bool.{cases_eq}
-use Rattle.fraction.specs.Fraction.{num_end, den_end, product_end, Divides, Coprime, Greatest, euclid, gcd_of, Reduced, same-as}
+use Rattle.fraction.specs.Fraction.{num_end, den_end, product_end, Divides, Coprime, Greatest, euclid, gcd_of, Reduced, same_as}
 
 -- a divisor of b divides a exactly if it divides what b leaves of a
 pub divides_rest : (d a b : ℕ) → Divides d a → Divides d b → Divides d (a % b)
@@ -200,7 +200,7 @@ lowest_unique a b c d l h g e =
 
 -- so fractions in lowest terms are the same number exactly if their parts are equal
 pub same_by_parts :
-    (a b c d : ℕ) → 0 < b → Coprime a b → Coprime c d → same-as a b c d ≡ (eqb a c && eqb b d)
+    (a b c d : ℕ) → 0 < b → Coprime a b → Coprime c d → same_as a b c d ≡ (eqb a c && eqb b d)
 same_by_parts a b c d l h g =
     elim (cases_eq (a * d) (c * b)) [
       | inl e ↦ (let r = lowest_unique a b c d l h g e in let x = r.0 in let y = r.1 in grind (arith, nat_tests))

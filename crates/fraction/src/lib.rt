@@ -1,4 +1,6 @@
 // Fractions of 64-bit numbers by value, exact: lowest terms, order, text, and the range of numbers that plans need.
+#![tactic(auto)]
+
 mod exact;
 mod limits;
 mod order;

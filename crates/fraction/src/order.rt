@@ -1,6 +1,6 @@
 // The order of fractions, exactly, by cross products.
 ghost use Rattle.std.specs.Prelude.{◌≡◌, ◌*◌, ◌<◌, ◌&&◌, ◌==◌};
-ghost use Rattle.fraction.specs.Fraction.{product_end, less_than, at_most, same-as};
+ghost use Rattle.fraction.specs.Fraction.{product_end, less_than, at_most, same_as};
 
 use crate::exact::Fraction;
 
@@ -29,7 +29,7 @@ impl Fraction {
 
     // Whether both are the same number; in lowest terms, exactly if their parts are equal.
     pub fn same(self, other: Fraction) -> bool
-        ensures value { result ≡ same-as self.num self.den other.num other.den }
+        ensures value { result ≡ same_as self.num self.den other.num other.den }
         ensures parts { result ≡ (self.num == other.num && self.den == other.den) }
     {
         self.num == other.num && self.den == other.den

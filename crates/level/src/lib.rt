@@ -1,4 +1,6 @@
 // Groups of tasks and hours, the highest level first, and the plan.
+#![tactic(auto)]
+
 mod crew;
 pub mod levels;
 mod load;

@@ -1,4 +1,6 @@
 // The printed lines: hours with their loads, tasks with their amounts, and refusals.
+#![tactic(auto)]
+
 mod line;
 mod text;
 

@@ -1,4 +1,6 @@
 // Nights: tasks, and how a night is read and written.
+#![tactic(auto)]
+
 pub mod bytes;
 pub mod limits;
 pub mod night;

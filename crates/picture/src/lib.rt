@@ -1,4 +1,6 @@
 // Plans as pictures: an SVG for the eyes, and bars of characters for the terminal.
+#![tactic(auto)]
+
 pub mod bars;
 mod columns;
 pub mod drawn;

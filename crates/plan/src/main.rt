@@ -1,4 +1,6 @@
 // Plans a night: prints the load of each hour and the amounts of each task.
+#![tactic(auto)]
+
 mod help;
 mod names;
 mod output;

@@ -1,4 +1,6 @@
 // Tests of fractions, nights, flows, levels and sheets, in a crate of their own: a crate with tests is proved once more for them.
+#![tactic(auto)]
+
 #[cfg(test)]
 mod flows;
 #[cfg(test)]

@@ -1,2 +1,4 @@
 // Sets of hours.
+#![tactic(auto)]
+
 pub mod hours;

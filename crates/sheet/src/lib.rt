@@ -1,4 +1,6 @@
 // Sheets: their bytes and their checker, which knows nothing of how a plan is made.
+#![tactic(auto)]
+
 mod bytes;
 mod checker;
 mod even;

@@ -1,4 +1,6 @@
 // Writes sheets: that of any plan, and from a night that of its plan, which the checker accepts.
+#![tactic(auto)]
+
 pub mod planned;
 mod put;
 pub mod refusal;

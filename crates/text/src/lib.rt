@@ -1,4 +1,6 @@
 // Nights and changes as people write them.
+#![tactic(auto)]
+
 pub mod change_line;
 pub mod changes;
 mod header;

@@ -1,4 +1,6 @@
 // Tries the harbour's crates on random nights, beside the proofs: `trial [SEED] [COUNT]`.
+#![tactic(auto)]
+
 mod case;
 mod changes;
 mod fault;
