@@ -4,4 +4,4 @@ use Rattle.night.proofs.bytes.push_little.Given as goal
 
 abbrev pub invariant-loop-i : goal.invariant-loop-i
 invariant-loop-i l =
-    (vec_items l.out ≡ vec_items l.initial.out ++ digits l.-i l.n) × (l.rest ≡ l.n / 256 ^ l.-i)
+    (vec_items l.out ≡ vec_items l.initial.out ++ digits l._i l.n) × (l.rest ≡ l.n / 256 ^ l._i)

@@ -8,13 +8,13 @@ loop-i-init c = (
   (let z : c.min-len.result - c.min-len.result ≡ 0 = omega arith in rw z (omega arith)),
 )
 
-pub overflow-mul-value : goal.overflow-mul-value
-overflow-mul-value c =
+pub overflow_mul-value : goal.overflow_mul-value
+overflow_mul-value c =
     omega
     (arith, little_room c.loop-i.value (c.min-len.result - c.loop-i.i) c.loop-i.invariant.1 (omega arith))
 
-pub overflow-add-value : goal.overflow-add-value
-overflow-add-value c =
+pub overflow_add-value : goal.overflow_add-value
+overflow_add-value c =
     omega
     (arith, little_room c.loop-i.value (c.min-len.result - c.loop-i.i) c.loop-i.invariant.1 (omega arith))
 

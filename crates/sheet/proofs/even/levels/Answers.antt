@@ -31,7 +31,7 @@ returns-in-Some c =
     (inr
     (inr (
       refl,
-      steep_refused _ _ c.requires.loads c.requires.starts.sized (λ i. omega (arith, c.type-inv.sheet i)) c.requires.adds c.loop-j.j _ _ _ c.loop-j-test.true
+      steep_refused _ _ c.requires.loads c.requires.starts.sized (λ i. omega (arith, c.type_inv.sheet i)) c.requires.adds c.loop-j.j _ _ _ c.loop-j-test.true
           (ap (λ p. p + 1) (c.requires.starts.each c.loop-j.j (omega arith))) c.loop-j.invariant c.in-Some.ensures,
     )))
 

@@ -19,7 +19,7 @@ starts-starts-requires c =
       sound = c.requires;
       near =
           omega
-          (arith, c.requires.short, mul-le (get_or c.args.sheet.now (c.args.hours * 9) 0) c.row-bytes.result 255 12 (omega (arith, c.type-inv.sheet (c.args.hours * 9))) (omega (arith, c.requires.short)));
+          (arith, c.requires.short, mul-le (get_or c.args.sheet.now (c.args.hours * 9) 0) c.row-bytes.result 255 12 (omega (arith, c.type_inv.sheet (c.args.hours * 9))) (omega (arith, c.requires.short)));
     }
 
 pub returns-then-sheet-end : goal.returns-then-sheet-end

@@ -17,7 +17,7 @@ returns c =
     c.loop-j.invariant.sum ∙ ap (λ n. sum n (lies c.args.tasks.now c.args.sheet.now c.args.overs.now c.args.at.now c.args.s)) e in
     record {
       sum = sum;
-      small = omega (arith, sum, column_small c.args.tasks.now c.args.sheet.now c.args.overs.now c.args.at.now c.args.s _ c.requires.few (λ i. omega (arith, c.type-inv.sheet i)));
+      small = omega (arith, sum, column_small c.args.tasks.now c.args.sheet.now c.args.overs.now c.args.at.now c.args.s _ c.requires.few (λ i. omega (arith, c.type_inv.sheet i)));
       next = λ j l. c.loop-j.invariant.next j (omega arith);
     }
 
@@ -27,7 +27,7 @@ loop-j-preserved-then-not-contains c = column_skip c.loop-j.invariant (sym c.if-
 pub add-requires : goal.add-requires
 add-requires c =
     omega
-    (arith, seven_eight, column_room c.loop-j.invariant _ _ (omega (arith, c.requires.few)) (λ i. omega (arith, c.type-inv.sheet i)) (sym c.if-not-contains.ensures) refl c.word-at.ensures)
+    (arith, seven_eight, column_room c.loop-j.invariant _ _ (omega (arith, c.requires.few)) (λ i. omega (arith, c.type_inv.sheet i)) (sym c.if-not-contains.ensures) refl c.word-at.ensures)
 
 pub loop-j-preserved : goal.loop-j-preserved
 loop-j-preserved c =

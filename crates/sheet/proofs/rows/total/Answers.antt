@@ -26,7 +26,7 @@ word-at-requires c =
 pub overflow-add-sum : goal.overflow-add-sum
 overflow-add-sum c =
     omega
-    (arith, c.loop-s.invariant.0, c.requires.short, total_fits c.args.sheet.now c.args.p c.loop-s.s (has c.args.set) (λ i. omega (arith, c.type-inv.sheet i)))
+    (arith, c.loop-s.invariant.0, c.requires.short, total_fits c.args.sheet.now c.args.p c.loop-s.s (has c.args.set) (λ i. omega (arith, c.type_inv.sheet i)))
 
 pub overflow-add-at : goal.overflow-add-at
 overflow-add-at c =

@@ -5,8 +5,8 @@ use Rattle.sets.specs.Hours.{has}
 use Rattle.sets.proofs.Bits.{bit_ones}
 use Rattle.sets.proofs.hours.Hours.below.Goals as goal
 
-pub overflow-sub-result : goal.overflow-sub-result
-overflow-sub-result c = rw (one_shl c.args.n 128 c.if-n-lt128.true) (omega (arith, pow_pos c.args.n))
+pub overflow_sub-result : goal.overflow_sub-result
+overflow_sub-result c = rw (one_shl c.args.n 128 c.if-n-lt128.true) (omega (arith, pow_pos c.args.n))
 
 pub returns-then-n-lt128 : goal.returns-then-n-lt128
 unfolding has

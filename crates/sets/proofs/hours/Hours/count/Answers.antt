@@ -3,8 +3,8 @@ use Rattle.std.proofs.lemmas.Nat.{ones-le}
 use Rattle.sets.proofs.Members.{size_bits}
 use Rattle.sets.proofs.hours.Hours.count.Goals as goal
 
-pub overflow-cast-result : goal.overflow-cast-result
-overflow-cast-result c =
+pub overflow_cast-result : goal.overflow_cast-result
+overflow_cast-result c =
     let f : c.args.self.bits < 2 ^ 128 = omega arith in omega (arith, ones-le 128 c.args.self.bits f)
 
 pub returns : goal.returns
