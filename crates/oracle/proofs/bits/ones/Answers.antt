@@ -2,8 +2,8 @@ use Rattle.std.proofs.Common.{min, arith}
 use Rattle.std.proofs.lemmas.Nat.{one_shl, pow_pos}
 use Rattle.oracle.proofs.bits.ones.Goals as goal
 
-pub overflow-sub-result : goal.overflow-sub-result
-overflow-sub-result c = rw (one_shl c.min.result 128 (omega arith)) (omega (arith, pow_pos c.min.result))
+pub overflow_sub-result : goal.overflow_sub-result
+overflow_sub-result c = rw (one_shl c.min.result 128 (omega arith)) (omega (arith, pow_pos c.min.result))
 
 pub returns : goal.returns
 returns c =

@@ -9,20 +9,20 @@ loop-i-init c = (
   (let z : c.min-w.result - c.min-w.result ≡ 0 = omega arith in rw z (omega arith)),
 )
 
-pub overflow-mul-n : goal.overflow-mul-n
-overflow-mul-n c =
+pub overflow_mul-n : goal.overflow_mul-n
+overflow_mul-n c =
     omega
     (arith, little_room c.loop-i.n c.min-w.result c.loop-i.i (omega arith) (omega arith) c.loop-i.invariant.1)
 
-pub overflow-add-n : goal.overflow-add-n
-overflow-add-n c =
+pub overflow_add-n : goal.overflow_add-n
+overflow_add-n c =
     omega
     (arith, little_room c.loop-i.n c.min-w.result c.loop-i.i (omega arith) (omega arith) c.loop-i.invariant.1)
 
 pub loop-i-preserved : goal.loop-i-preserved
 loop-i-preserved c = (
   λ f.
-      let e : c.saturating-add.result ≡ c.args.at + (c.loop-i.i - 1) = omega (arith, c.saturating-add.ensures) in
+      let e : c.saturating_add.result ≡ c.args.at + (c.loop-i.i - 1) = omega (arith, c.saturating_add.ensures) in
       let g : c.from.result ≡ get_or c.args.bytes.now (c.args.at + (c.loop-i.i - 1)) 0 =
       c.from.ensures ∙ c.byte.ensures ∙ ap (λ k. get_or c.args.bytes.now k 0) e in
       rw g
