@@ -3,8 +3,8 @@ use Rattle.sets.specs.Hours.{has, blank}
 use Rattle.flow.proofs.Cells.{cell_marked, cell_bare, cell_same, write_other, marks_write, insert_at, insert_other, insert_from, room_at, room_other}
 use Rattle.flow.proofs.cell.put.Goals as goal
 
-pub overflow-add-work : goal.overflow-add-work
-overflow-add-work c =
+pub overflow_add-work : goal.overflow_add-work
+overflow_add-work c =
     omega (arith, cell_marked c.args.net.now.marks c.args.work.now c.args.j c.args.s (sym c.if-contains.ensures))
 
 pub returns-then-contains : goal.returns-then-contains

@@ -4,8 +4,8 @@ use Rattle.std.proofs.lemmas.Bool.{both_ways}
 use Rattle.flow.proofs.Cells.{cell_marked, cell_bare, cell_some, cell_same, write_other, marks_write, remove_at, remove_other, remove_from, room_at, room_other}
 use Rattle.flow.proofs.cell.take.Goals as goal
 
-pub overflow-sub-work : goal.overflow-sub-work
-overflow-sub-work c =
+pub overflow_sub-work : goal.overflow_sub-work
+overflow_sub-work c =
     let h = cell_some c.args.net.now.marks c.args.work.now c.args.j c.args.s (omega arith) in
     omega (arith, cell_marked c.args.net.now.marks c.args.work.now c.args.j c.args.s h)
 

@@ -41,7 +41,7 @@ returns c =
     record {
       rooms = λ s.
           let was = c.members.invariant.0 s in
-          let gone = none_any c.members.rest c.in-default.ensures s in
+          let gone = none_any c.members.rest c.in_default.ensures s in
           grind arith;
       fits = c.members.invariant.2;
     }

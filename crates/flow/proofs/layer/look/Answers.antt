@@ -14,23 +14,23 @@ layers-init c = (
   layered_first (length c.args.may.now) c.args.may.now c.args.net.now c.args.layers.now c.roomy.result (omega arith) c.roomy.ensures.rooms c.roomy.ensures.low,
 )
 
-pub returns-then-is-empty : goal.returns-then-is-empty
-returns-then-is-empty c = (
+pub returns-then-is_empty : goal.returns-then-is_empty
+returns-then-is_empty c = (
   c.layers.invariant.1,
   c.layers.invariant.3,
-  stuck c.layers.invariant.3 c.in-Next.ensures c.requires.marks c.minus.result c.minus.ensures (not-true _ (sym c.if-is-empty.ensures)),
+  stuck c.layers.invariant.3 c.in-Next.ensures c.requires.marks c.minus.result c.minus.ensures (not-true _ (sym c.if-is_empty.ensures)),
 )
 
 -- the next layer is larger
-grows : (c : goal.Else-is-empty) → c.layers.k + 1 ≤ size 96 (has c.in-Next.next)
+grows : (c : goal.Else-is_empty) → c.layers.k + 1 ≤ size 96 (has c.in-Next.next)
 grows c =
     omega
-    (arith, larger c.layers.invariant.3 c.in-Next.ensures c.requires.marks c.minus.result c.minus.ensures (not-false _ (sym c.if-is-empty.ensures)))
+    (arith, larger c.layers.invariant.3 c.in-Next.ensures c.requires.marks c.minus.result c.minus.ensures (not-false _ (sym c.if-is_empty.ensures)))
 
-pub overflow-add-k : goal.overflow-add-k
-overflow-add-k c = omega arith
+pub overflow_add-k : goal.overflow_add-k
+overflow_add-k c = omega arith
 
-short : (c : goal.Else-is-empty) → c.layers.k + 1 ≤ 96
+short : (c : goal.Else-is_empty) → c.layers.k + 1 ≤ 96
 short c = omega (arith, grows c, size_le 96 (has c.in-Next.next))
 
 pub bounds-layers-k-in-Next : goal.bounds-layers-k-in-Next

@@ -44,7 +44,7 @@ returns c =
     record {
       rooms = λ s.
           let was = c.members.invariant.0 s in
-          let gone = none_any c.members.rest c.in-default.ensures s in
+          let gone = none_any c.members.rest c.in_default.ensures s in
           elim (cases_Bool (has c.args.hours s)) [
             | inl t ↦ grind arith
             | inr f ↦

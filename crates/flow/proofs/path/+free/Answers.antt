@@ -16,7 +16,7 @@ returns-then-contains t c =
 
 pub unreachable-requires : goal.unreachable-requires
 unreachable-requires t c =
-    some_step c.requires.ways (omega arith) c.args.t c.requires.member (sym c.if-contains.ensures) c.in-default.ensures
+    some_step c.requires.ways (omega arith) c.args.t c.requires.member (sym c.if-contains.ensures) c.in_default.ensures
 
 pub shift-requires : goal.shift-requires
 shift-requires t c =

@@ -11,13 +11,13 @@ returns-in-End c =
       settled = ended seen.1 seen.2 c.rounds.invariant.1 some.0 some.1 some.2;
       sound = c.rounds.invariant.1;
       steady = c.rounds.invariant.2;
-      looks = omega (arith, c.saturating-add-looks.ensures);
+      looks = omega (arith, c.saturating_add-looks.ensures);
     }
 
 pub rounds-preserved : goal.rounds-preserved
 rounds-preserved c = (
   omega arith,
-  c.serve-all.ensures.sound,
-  steady_then (steady_then c.rounds.invariant.2 c.step.ensures.steady) c.serve-all.ensures.steady,
-  omega (arith, c.saturating-add-looks.ensures, c.step.ensures.less, c.serve-all.ensures.less),
+  c.serve_all.ensures.sound,
+  steady_then (steady_then c.rounds.invariant.2 c.step.ensures.steady) c.serve_all.ensures.steady,
+  omega (arith, c.saturating_add-looks.ensures, c.step.ensures.less, c.serve_all.ensures.less),
 )

@@ -4,4 +4,4 @@ use Rattle.sheet.proofs.bytes.word_at.Goals as goal
 
 pub returns : goal.returns
 unfolding word
-returns c = c.from-le-bytes.ensures
+returns c = c.from_le_bytes.ensures

@@ -7,7 +7,7 @@ use Rattle.sheet.proofs.checker.check.Goals as goal
 
 pub returns : goal.returns
 returns c =
-    let v : MatchResult c.check-tasks.result (λ x. Accepted (day_of c.args.night.now) c.args.sheet.now) (λ e. Refused (day_of c.args.night.now) c.args.sheet.now (code e)) = search rules in
+    let v : MatchResult c.check_tasks.result (λ x. Accepted (day_of c.args.night.now) c.args.sheet.now) (λ e. Refused (day_of c.args.night.now) c.args.sheet.now (code e)) = search rules in
     record {
       outcome = v;
       all = verdict_all _ _ _ v;

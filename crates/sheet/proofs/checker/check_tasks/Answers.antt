@@ -3,4 +3,4 @@ use Rattle.sheet.proofs.checker.check_tasks.Goals as goal
 
 pub returns : goal.returns
 returns c =
-    accepted_by _ _ c.in-ok-starts.ensures.sized c.in-ok-loads.ensures c.in-ok-rows.ensures c.in-ok-levels.ensures
+    accepted_by _ _ c.in_ok-starts.ensures.sized c.in_ok-loads.ensures c.in_ok-rows.ensures c.in_ok-levels.ensures

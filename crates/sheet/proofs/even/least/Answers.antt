@@ -12,6 +12,6 @@ loop-t-preserved c = (
         | inl e ↦ rw e (lower_self c.args.sheet.now c.loop-t.t)
         | inr ne ↦
             lower_more c.args.sheet.now t c.loop-t.best c.loop-t.t (c.requires.over c.loop-t.best c.loop-t.invariant.0)
-            (c.loop-t.invariant.2 t (omega arith) h) (sym c.if-not-is-lower.ensures)
+            (c.loop-t.invariant.2 t (omega arith) h) (sym c.if-not-is_lower.ensures)
       ],
 )

@@ -7,8 +7,8 @@ use Rattle.sheet.proofs.Places.{loads_in, start_end, task_in}
 use Rattle.sheet.proofs.Slopes.{flat_level, steep_refused}
 use Rattle.sheet.proofs.even.levels.Goals as goal
 
-pub overflow-add-starts : goal.overflow-add-starts
-overflow-add-starts c =
+pub overflow_add-starts : goal.overflow_add-starts
+overflow_add-starts c =
     let y = day c.args.hours c.args.tasks.now in
     omega
     (arith, task_in y c.args.sheet.now c.requires.starts.sized c.loop-j.j c.loop-j-test.true, c.requires.starts.each c.loop-j.j (omega arith))
@@ -40,6 +40,6 @@ loop-j-preserved c = λ j s t l.
     elim (cases_eq j c.loop-j.j) [
       | inl e ↦
           rw e
-          (flat_level _ _ c.requires.loads c.loop-j.j _ c.args.hours (ap (λ p. p + 1) (c.requires.starts.each c.loop-j.j (omega arith))) (le_refl _) c.in-default.ensures s t)
+          (flat_level _ _ c.requires.loads c.loop-j.j _ c.args.hours (ap (λ p. p + 1) (c.requires.starts.each c.loop-j.j (omega arith))) (le_refl _) c.in_default.ensures s t)
       | inr ne ↦ c.loop-j.invariant j s t (omega arith)
     ]

@@ -15,13 +15,13 @@ loop-s-preserved-then-not-contains c =
     let m = sym c.if-not-contains.ensures in
     (omega (arith, c.loop-s.invariant.0, size_skip c.loop-s.s (has c.args.set) m), flat_idle _ _ _ _ c.loop-s.s c.loop-s.invariant.1 (listed_skip c.args.sheet.now c.args.p c.loop-s.s (has c.args.set) m))
 
-pub word-at-amount-requires : goal.word-at-amount-requires
-word-at-amount-requires c =
+pub word_at-amount-requires : goal.word_at-amount-requires
+word_at-amount-requires c =
     omega
     (arith, c.loop-s.invariant.0, c.requires.within, size_room c.loop-s.s c.args.hours (has c.args.set) c.loop-s-test.true (sym c.if-not-contains.ensures))
 
-pub overflow-add-at : goal.overflow-add-at
-overflow-add-at c =
+pub overflow_add-at : goal.overflow_add-at
+overflow_add-at c =
     omega
     (arith, c.loop-s.invariant.0, c.requires.within, size_room c.loop-s.s c.args.hours (has c.args.set) c.loop-s-test.true (sym c.if-not-contains.ensures))
 
@@ -31,7 +31,7 @@ loop-s-preserved-then-amount-eq0 c =
       omega (arith, c.loop-s.invariant.0, size_take c.loop-s.s (has c.args.set) m),
       flat_idle _ _ _ _ c.loop-s.s c.loop-s.invariant.1
           (listed_take c.args.sheet.now c.args.p c.loop-s.s c.loop-s.at (has c.args.set) m c.loop-s.invariant.0
-          ∙ (sym c.word-at-amount.ensures ∙ c.if-amount-eq0.true)),
+          ∙ (sym c.word_at-amount.ensures ∙ c.if-amount-eq0.true)),
     )
 
 pub loop-s-preserved : goal.loop-s-preserved
@@ -39,8 +39,8 @@ loop-s-preserved c =
     let m = sym c.if-not-contains.ensures in (
       omega (arith, c.loop-s.invariant.0, size_take c.loop-s.s (has c.args.set) m),
       flat_low _ _ _ _ c.loop-s.s c.least-low.result c.loop-s.invariant.1
-          (c.requires.over c.least-low.result c.least-low.ensures.hour) c.least-low.ensures.least (sym c.if-is-lower.ensures),
+          (c.requires.over c.least-low.result c.least-low.ensures.hour) c.least-low.ensures.least (sym c.if-is_lower.ensures),
     )
 
-pub returns-in-default : goal.returns-in-default
-returns-in-default c = flat_empty _ _ _ _ (none_any c.args.set c.in-default.ensures)
+pub returns-in_default : goal.returns-in_default
+returns-in_default c = flat_empty _ _ _ _ (none_any c.args.set c.in_default.ensures)

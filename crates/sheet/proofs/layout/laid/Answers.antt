@@ -19,17 +19,17 @@ starts-starts-requires c =
       sound = c.requires;
       near =
           omega
-          (arith, c.requires.short, mul-le (get_or c.args.sheet.now (c.args.hours * 9) 0) c.row-bytes.result 255 12 (omega (arith, c.type_inv.sheet (c.args.hours * 9))) (omega (arith, c.requires.short)));
+          (arith, c.requires.short, mul-le (get_or c.args.sheet.now (c.args.hours * 9) 0) c.row_bytes.result 255 12 (omega (arith, c.type_inv.sheet (c.args.hours * 9))) (omega (arith, c.requires.short)));
     }
 
 pub returns-then-sheet-end : goal.returns-then-sheet-end
 returns-then-sheet-end c =
     let y = day c.args.hours c.args.tasks.now in
-    let e = c.starts-starts.ensures.each y.tasks (le_refl _) ∙ start_from y c.args.sheet.now y.tasks _ c.row-bytes.ensures in
+    let e = c.starts-starts.ensures.each y.tasks (le_refl _) ∙ start_from y c.args.sheet.now y.tasks _ c.row_bytes.ensures in
     inl (refl, record { wrong = λ h. c.if-sheet-end.true (h ∙ sym e); place = omega (arith, c.min.ensures, e) })
 
 pub returns : goal.returns
 returns c =
     let y = day c.args.hours c.args.tasks.now in
-    let e : (j : ℕ) → j ≤ y.tasks → get_or c.starts-starts.result j 0 ≡ start y c.args.sheet.now j = λ j l. c.starts-starts.ensures.each j l ∙ start_from y c.args.sheet.now j _ c.row-bytes.ensures in
+    let e : (j : ℕ) → j ≤ y.tasks → get_or c.starts-starts.result j 0 ≡ start y c.args.sheet.now j = λ j l. c.starts-starts.ensures.each j l ∙ start_from y c.args.sheet.now j _ c.row_bytes.ensures in
     record { sized = c.if-sheet-end.false ∙ e y.tasks (le_refl _); long = c.starts-starts.ensures.long; each = e }

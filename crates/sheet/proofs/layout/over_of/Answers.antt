@@ -19,13 +19,13 @@ returns-then-group-sheet c =
     let e = ap (λ p. get_or c.args.sheet.now p 0) (c.requires.starts.each c.args.j (omega (arith, c.requires.task))) in
     sym (over_missing y c.args.sheet.now c.args.j (omega (arith, e, c.if-group-sheet.true)))
 
-pub first-bit-s-requires : goal.first-bit-s-requires
-first-bit-s-requires c =
+pub first_bit-s-requires : goal.first_bit-s-requires
+first_bit-s-requires c =
     let y = day c.args.hours c.args.tasks.now in
     let g = get_or c.args.sheet.now (get_or c.args.starts.now c.args.j 0) 0 in (
       c.requires.sound.short,
       omega
-          (arith, group_end y c.args.sheet.now g y.tasks c.if-group-sheet.false, c.requires.starts.sized, ap (λ w. g * w) c.row-bytes.ensures),
+          (arith, group_end y c.args.sheet.now g y.tasks c.if-group-sheet.false, c.requires.starts.sized, ap (λ w. g * w) c.row_bytes.ensures),
     )
 
 pub returns-then-s-hours : goal.returns-then-s-hours
@@ -33,7 +33,7 @@ returns-then-s-hours c =
     let b = c.args.sheet.now in
     let y = day c.args.hours c.args.tasks.now in
     let e = ap (λ p. get_or b p 0) (c.requires.starts.each c.args.j (omega (arith, c.requires.task))) in
-    let f = c.first-bit-s.ensures ∙ (first_at y b _ _ c.row-bytes.ensures ∙ ap (first_of y b) e) in
+    let f = c.first_bit-s.ensures ∙ (first_at y b _ _ c.row_bytes.ensures ∙ ap (first_of y b) e) in
     sym (over_empty y b c.args.j (omega (arith, e, c.if-group-sheet.false)) (omega (arith, f, c.if-s-hours.true)))
 
 pub bounds-sheet-s : goal.bounds-sheet-s
@@ -46,6 +46,6 @@ returns c =
     let b = c.args.sheet.now in
     let y = day c.args.hours c.args.tasks.now in
     let e = ap (λ p. get_or b p 0) (c.requires.starts.each c.args.j (omega (arith, c.requires.task))) in
-    let f = c.first-bit-s.ensures ∙ (first_at y b _ _ c.row-bytes.ensures ∙ ap (first_of y b) e) in
+    let f = c.first_bit-s.ensures ∙ (first_at y b _ _ c.row_bytes.ensures ∙ ap (first_of y b) e) in
     ap (den b) f
     ∙ sym (over_some y b c.args.j (omega (arith, e, c.if-group-sheet.false)) (omega (arith, f, c.if-s-hours.false)))

@@ -7,7 +7,7 @@ loop-j-preserved c = (
   simp length-set (omega arith),
   λ k l.
       elim (cases_eq k c.loop-j.j) [
-        | inl e ↦ rw e (get_or-set_same c.loop-j.out c.loop-j.j _ 0 (omega (arith, c.requires.sound.few)) ∙ c.over-of.ensures)
+        | inl e ↦ rw e (get_or-set_same c.loop-j.out c.loop-j.j _ 0 (omega (arith, c.requires.sound.few)) ∙ c.over_of.ensures)
         | inr ne ↦ get_or-set_other _ _ k _ 0 ne ∙ c.loop-j.invariant.1 k (omega arith)
       ],
 )

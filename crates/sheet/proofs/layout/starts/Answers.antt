@@ -19,14 +19,14 @@ counted c =
     omega
     (arith, c.count.ensures, row_count c.args.hours c.args.tasks.now c.loop-j.j c.requires.sound c.loop-j-test.true)
 
-pub overflow-mul-at : goal.overflow-mul-at
-overflow-mul-at c = omega (arith, counted c, row_le (day c.args.hours c.args.tasks.now) c.loop-j.j c.requires.sound.short)
+pub overflow_mul-at : goal.overflow_mul-at
+overflow_mul-at c = omega (arith, counted c, row_le (day c.args.hours c.args.tasks.now) c.loop-j.j c.requires.sound.short)
 
-pub overflow-add-at : goal.overflow-add-at
-overflow-add-at c = omega (arith, counted c, row_le (day c.args.hours c.args.tasks.now) c.loop-j.j c.requires.sound.short)
+pub overflow_add-at : goal.overflow_add-at
+overflow_add-at c = omega (arith, counted c, row_le (day c.args.hours c.args.tasks.now) c.loop-j.j c.requires.sound.short)
 
-pub overflow-add-at-in-loop-j : goal.overflow-add-at-in-loop-j
-overflow-add-at-in-loop-j c =
+pub overflow_add-at-in-loop-j : goal.overflow_add-at-in-loop-j
+overflow_add-at-in-loop-j c =
     omega
     (arith, counted c, row_le (day c.args.hours c.args.tasks.now) c.loop-j.j c.requires.sound.short, rows_le (day c.args.hours c.args.tasks.now) c.loop-j.j c.requires.sound.short)
 

@@ -13,8 +13,8 @@ returns-then-by-eq0 c =
 pub loop-k-init : goal.loop-k-init
 loop-k-init c = (refl, omega arith, omega (arith, ap (λ m. c.args.by * m) value_zeros), λ i l. get_or-replicate 8 i 0 0 l)
 
-pub overflow-cast-out-in-loop-k : goal.overflow-cast-out-in-loop-k
-overflow-cast-out-in-loop-k c =
+pub overflow_cast-out-in-loop-k : goal.overflow_cast-out-in-loop-k
+overflow_cast-out-in-loop-k c =
     omega
     (arith, div_below (c.loop-k.rest * 18446744073709551616 + get_or c.args.what.now (7 - c.loop-k.k) 0) c.args.by 18446744073709551616 (omega arith) (omega arith))
 

@@ -27,8 +27,8 @@ loop-j-preserved-then-not-contains c = column_skip c.loop-j.invariant (sym c.if-
 pub add-requires : goal.add-requires
 add-requires c =
     omega
-    (arith, seven_eight, column_room c.loop-j.invariant _ _ (omega (arith, c.requires.few)) (λ i. omega (arith, c.type_inv.sheet i)) (sym c.if-not-contains.ensures) refl c.word-at.ensures)
+    (arith, seven_eight, column_room c.loop-j.invariant _ _ (omega (arith, c.requires.few)) (λ i. omega (arith, c.type_inv.sheet i)) (sym c.if-not-contains.ensures) refl c.word_at.ensures)
 
 pub loop-j-preserved : goal.loop-j-preserved
 loop-j-preserved c =
-    column_take c.loop-j.invariant c.add.new.self _ _ (omega (arith, c.requires.few)) (sym c.if-not-contains.ensures) refl c.word-at.ensures c.add.ensures
+    column_take c.loop-j.invariant c.add.new.self _ _ (omega (arith, c.requires.few)) (sym c.if-not-contains.ensures) refl c.word_at.ensures c.add.ensures

@@ -14,8 +14,8 @@ column-tally-requires c =
       within = through_within _ _ c.loop-s.invariant c.requires.starts.sized c.loop-s-test.true;
     }
 
-pub is-load-requires : goal.is-load-requires
-is-load-requires c =
+pub is_load-requires : goal.is_load-requires
+is_load-requires c =
     record {
       within =
           omega
@@ -27,10 +27,10 @@ pub loop-s-preserved : goal.loop-s-preserved
 loop-s-preserved c =
     let e = c.column-tally.ensures.sum ∙ through_load _ _ c.loop-s.invariant c.requires.overs in
     through_more _ _ c.loop-s.invariant c.column-tally.array_long
-    (loaded_by _ _ c.loop-s.s _ e (sym c.if-not-is-load.ensures)) c.column-tally.ensures.next
+    (loaded_by _ _ c.loop-s.s _ e (sym c.if-not-is_load.ensures)) c.column-tally.ensures.next
 
-pub returns-then-not-is-load : goal.returns-then-not-is-load
-returns-then-not-is-load c =
+pub returns-then-not-is_load : goal.returns-then-not-is_load
+returns-then-not-is_load c =
     let e = c.column-tally.ensures.sum ∙ through_load _ _ c.loop-s.invariant c.requires.overs in
     inr
     (inl (
@@ -39,6 +39,6 @@ returns-then-not-is-load c =
         sized = c.requires.starts.sized;
         hour = c.loop-s-test.true;
         before = c.loop-s.invariant.before;
-        wrong = loaded_not _ _ c.loop-s.s _ e (sym c.if-not-is-load.ensures);
+        wrong = loaded_not _ _ c.loop-s.s _ e (sym c.if-not-is_load.ensures);
       },
     ))

@@ -20,8 +20,8 @@ returns-then-over-eq0 c =
       },
     )))
 
-pub overflow-add-starts : goal.overflow-add-starts
-overflow-add-starts c =
+pub overflow_add-starts : goal.overflow_add-starts
+overflow_add-starts c =
     let y = day c.args.hours c.args.tasks.now in
     omega
     (arith, task_in y c.args.sheet.now c.requires.starts.sized c.loop-j.j c.loop-j-test.true, c.requires.starts.each c.loop-j.j (omega arith))

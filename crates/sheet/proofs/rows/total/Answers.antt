@@ -18,18 +18,18 @@ loop-s-preserved-then-not-contains c =
           (arith, c.loop-s.invariant.1, size_skip c.loop-s.s (has c.args.set) m),
     )
 
-pub word-at-requires : goal.word-at-requires
-word-at-requires c =
+pub word_at-requires : goal.word_at-requires
+word_at-requires c =
     omega
     (arith, c.loop-s.invariant.1, c.requires.within, size_room c.loop-s.s c.args.hours (has c.args.set) c.loop-s-test.true (sym c.if-not-contains.ensures))
 
-pub overflow-add-sum : goal.overflow-add-sum
-overflow-add-sum c =
+pub overflow_add-sum : goal.overflow_add-sum
+overflow_add-sum c =
     omega
     (arith, c.loop-s.invariant.0, c.requires.short, total_fits c.args.sheet.now c.args.p c.loop-s.s (has c.args.set) (λ i. omega (arith, c.type_inv.sheet i)))
 
-pub overflow-add-at : goal.overflow-add-at
-overflow-add-at c =
+pub overflow_add-at : goal.overflow_add-at
+overflow_add-at c =
     omega
     (arith, c.loop-s.invariant.1, c.requires.within, size_room c.loop-s.s c.args.hours (has c.args.set) c.loop-s-test.true (sym c.if-not-contains.ensures))
 
@@ -37,7 +37,7 @@ pub loop-s-preserved : goal.loop-s-preserved
 loop-s-preserved c =
     let m = sym c.if-not-contains.ensures in (
       omega
-          (arith, c.loop-s.invariant.0, c.word-at.ensures, listed_take c.args.sheet.now c.args.p c.loop-s.s c.loop-s.at (has c.args.set) m c.loop-s.invariant.1, sum_more c.loop-s.s (listed c.args.sheet.now c.args.p (has c.args.set))),
+          (arith, c.loop-s.invariant.0, c.word_at.ensures, listed_take c.args.sheet.now c.args.p c.loop-s.s c.loop-s.at (has c.args.set) m c.loop-s.invariant.1, sum_more c.loop-s.s (listed c.args.sheet.now c.args.p (has c.args.set))),
       omega
           (arith, c.loop-s.invariant.1, size_take c.loop-s.s (has c.args.set) m),
     )

@@ -12,10 +12,10 @@ pub returns : goal.returns
 returns c =
     let sum : value c.settle.new.self.sum ≡ parts c.args.self =
     omega (arith, ap (λ r. r * (whole / c.settle.new.self.over)) c.settle.ensures.none) in
-    let left : value c.add-times.new.to ≡ parts c.args.self * c.args.den =
-    no_carry _ c.add-times.result _ (omega (arith, value_zeros, ap (λ v. c.args.den * v) sum))
+    let left : value c.add_times.new.to ≡ parts c.args.self * c.args.den =
+    no_carry _ c.add_times.result _ (omega (arith, value_zeros, ap (λ v. c.args.den * v) sum))
     (omega (arith, times_fits c.args.den (parts c.args.self) (omega arith) c.requires)) in
-    let right : value c.add-times-2.new.to ≡ c.args.num * whole =
-    no_carry _ c.add-times-2.result _ (omega (arith, value_zeros, ap (λ v. c.args.num * v) whole_words))
+    let right : value c.add_times-2.new.to ≡ c.args.num * whole =
+    no_carry _ c.add_times-2.result _ (omega (arith, value_zeros, ap (λ v. c.args.num * v) whole_words))
     (times_fits c.args.num whole (omega arith) whole_fits) in
-    c.same.ensures ∙ (ap (λ v. eqb v (value c.add-times-2.new.to)) left ∙ ap (λ v. eqb (parts c.args.self * c.args.den) v) right)
+    c.same.ensures ∙ (ap (λ v. eqb v (value c.add_times-2.new.to)) left ∙ ap (λ v. eqb (parts c.args.self * c.args.den) v) right)

@@ -8,5 +8,5 @@ pub returns : goal.returns
 returns c =
     let share : value c.divided-share.result ≡ whole / c.args.self.now.over =
     c.divided-share.ensures ∙ ap (λ w. w / c.args.self.now.over) whole_words in
-    let e = no_carry _ _ _ (c.add-times.ensures ∙ ap (λ v. value c.args.self.now.sum + c.args.self.now.run * v) share) c.requires in
+    let e = no_carry _ _ _ (c.add_times.ensures ∙ ap (λ v. value c.args.self.now.sum + c.args.self.now.run * v) share) c.requires in
     record { same = omega arith; none = refl }
