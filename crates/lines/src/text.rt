@@ -7,7 +7,7 @@ ghost use Rattle.lines.specs.Text.{hours_text, task_text, tasks_text, plan_text,
 
 use crate::line::{HourLine, TaskLine};
 use fraction::{Fraction, MAX_HOURS};
-use std::alloc::Global;
+use std::alloc::{AllocError, Global};
 use std::fmt;
 
 // Adds a line for each hour; fails for want of memory.
@@ -34,6 +34,15 @@ impl From<fmt::Error> for Unprinted {
     ghost from_gives = { λ _ y. y ≡ NoMemory };
 
     fn from(_error: fmt::Error) -> Unprinted {
+        Unprinted::NoMemory
+    }
+}
+
+// So does a text that wants to grow.
+impl From<AllocError> for Unprinted {
+    ghost from_gives = { λ _ y. y ≡ NoMemory };
+
+    fn from(_error: AllocError) -> Unprinted {
         Unprinted::NoMemory
     }
 }

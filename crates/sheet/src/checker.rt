@@ -4,7 +4,7 @@ ghost use Rattle.night.specs.Task.{Sound};
 ghost use Rattle.even.specs.DayOf.{day, day_of};
 ghost use Rattle.sheet.specs.Verdict.{Accepted, Refused, Unbeaten, code};
 
-use crate::even::levels;
+use crate::evenness::levels;
 use crate::layout::{laid, overs};
 use crate::loads::loads;
 use crate::refusal::Refusal;

@@ -3,7 +3,7 @@
 
 mod bytes;
 mod checker;
-mod even;
+mod evenness;
 mod layout;
 mod limbs;
 mod loads;

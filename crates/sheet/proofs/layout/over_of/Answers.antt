@@ -22,11 +22,11 @@ returns-then-group-sheet c =
 pub first_bit-s-requires : goal.first_bit-s-requires
 first_bit-s-requires c =
     let y = day c.args.hours c.args.tasks.now in
-    let g = get_or c.args.sheet.now (get_or c.args.starts.now c.args.j 0) 0 in (
-      c.requires.sound.short,
-      omega
-          (arith, group_end y c.args.sheet.now g y.tasks c.if-group-sheet.false, c.requires.starts.sized, ap (λ w. g * w) c.row_bytes.ensures),
-    )
+    let g = get_or c.args.sheet.now (get_or c.args.starts.now c.args.j 0) 0 in
+    record {
+      n_bound = c.requires.sound.short;
+      n_in_bounds = omega (arith, group_end y c.args.sheet.now g y.tasks c.if-group-sheet.false, c.requires.starts.sized, ap (λ w. g * w) c.row_bytes.ensures);
+    }
 
 pub returns-then-s-hours : goal.returns-then-s-hours
 returns-then-s-hours c =

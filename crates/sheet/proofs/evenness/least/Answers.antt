@@ -1,7 +1,7 @@
 use Rattle.std.proofs.Common.{sym, inl, inr, arith}
 use Rattle.std.proofs.lemmas.Bool.{cases_eq}
 use Rattle.sheet.proofs.Slopes.{lower_more, lower_self}
-use Rattle.sheet.proofs.even.least.Goals as goal
+use Rattle.sheet.proofs.evenness.least.Goals as goal
 
 pub loop-t-preserved : goal.loop-t-preserved
 loop-t-preserved c = (

@@ -5,7 +5,7 @@ use Rattle.night.specs.Task.{blank_task}
 use Rattle.night.proofs.Rows.{has_within}
 use Rattle.sheet.proofs.Places.{loads_in, start_end, task_in}
 use Rattle.sheet.proofs.Slopes.{flat_level, steep_refused}
-use Rattle.sheet.proofs.even.levels.Goals as goal
+use Rattle.sheet.proofs.evenness.levels.Goals as goal
 
 pub overflow_add-starts : goal.overflow_add-starts
 overflow_add-starts c =

@@ -4,7 +4,7 @@ use Rattle.sets.specs.Hours.{has}
 use Rattle.sets.proofs.Members.{none_any}
 use Rattle.sheet.proofs.ByTask.{size_skip, size_take, size_room, listed_skip, listed_take}
 use Rattle.sheet.proofs.Slopes.{flat_none, flat_idle, flat_low, flat_empty}
-use Rattle.sheet.proofs.even.steep.Goals as goal
+use Rattle.sheet.proofs.evenness.steep.Goals as goal
 
 pub loop-s-init : goal.loop-s-init
 loop-s-init c =

@@ -2,7 +2,7 @@ use Rattle.std.proofs.Common.{◌≡◌, ◌+◌, ◌*◌}
 use Rattle.fraction.specs.Sum.{size}
 use Rattle.sets.specs.Hours.{has}
 use Rattle.sheet.specs.Layout.{Flat}
-use Rattle.sheet.proofs.even.steep.Given as goal
+use Rattle.sheet.proofs.evenness.steep.Given as goal
 
 abbrev pub invariant-loop-s : goal.invariant-loop-s
 invariant-loop-s l =
