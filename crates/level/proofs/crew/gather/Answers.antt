@@ -46,7 +46,7 @@ returns c =
     let n = length c.args.tasks.now in
     let crew = c.requires.crews.each p.top (omega arith) c.requires.top.waits in
     let i = c.tasks.invariant in
-    let none = crew_out crew c.tasks.from n (omega arith) (λ k g h. c.in-default.ensures k g) in
+    let none = crew_out crew c.tasks.from n (omega arith) (λ k g h. c.in_default.ensures k g) in
     record {
       sized = i.3;
       all = i.2 ∙ sym (part_past c.tasks.from n (top_tasks p) (λ j. 1) i.0 none);

@@ -39,5 +39,5 @@ hours-preserved c =
 
 pub returns : goal.returns
 returns c s =
-    let none = none_any c.hours.rest c.in-default.ensures s in
+    let none = none_any c.hours.rest c.in_default.ensures s in
     c.hours.invariant.0 s ∙ grind (arith, nat_tests)

@@ -55,7 +55,7 @@ hours-preserved c =
 
 pub returns : goal.returns
 returns c s l =
-    let none = none_any c.hours.rest c.in-default.ensures s in
+    let none = none_any c.hours.rest c.in_default.ensures s in
     let e = c.common-rest.ensures s in
     let b = c.below.ensures s in
     c.hours.invariant.0 s ∙ grind (arith, nat_tests)

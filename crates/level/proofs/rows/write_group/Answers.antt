@@ -43,4 +43,4 @@ returns c =
     let crew = c.requires.crews.each p.top (omega arith) c.requires.top.waits in
     let i = c.tasks.invariant in
     written_past i.3 c.args.n i.0
-    (crew_out crew c.tasks.from c.args.n (omega arith) (λ k g h. c.in-default.ensures k g))
+    (crew_out crew c.tasks.from c.args.n (omega arith) (λ k g h. c.in_default.ensures k g))

@@ -4,8 +4,8 @@ use Rattle.level.proofs.Crewed.{crews_split, crews_take}
 use Rattle.level.proofs.States.{held_top, split_below, split_fewer, step_split, step_take}
 use Rattle.level.proofs.step.step.Goals as goal
 
-pub level-of-level-requires : goal.level-of-level-requires
-level-of-level-requires c =
+pub level_of-level-requires : goal.level_of-level-requires
+level_of-level-requires c =
     record { ready = c.requires.ready; crews = c.requires.crews; top = held_top c.args.tasks.now c.args.parts.now c.args.plan.now c.requires.held c.requires.waits }
 
 pub ship-requires : goal.ship-requires
@@ -14,14 +14,14 @@ ship-requires c =
       ready = c.requires.ready;
       crews = c.requires.crews;
       top = held_top c.args.tasks.now c.args.parts.now c.args.plan.now c.requires.held c.requires.waits;
-      level = c.level-of-level.ensures.value;
-      small = c.level-of-level.ensures.small;
+      level = c.level_of-level.ensures.value;
+      small = c.level_of-level.ensures.small;
       sized = c.requires.sized;
       room = c.requires.work;
     }
 
-pub write-group-requires : goal.write-group-requires
-write-group-requires c =
+pub write_group-requires : goal.write_group-requires
+write_group-requires c =
     record {
       few = c.requires.ready.few;
       crews = c.requires.crews;
@@ -54,12 +54,12 @@ returns-in-Whole c =
     record {
       sized = c.in-Whole.ensures.sized;
       held =
-          step_take c.args.tasks.now c.args.parts.now c.take.new.parts c.args.plan.now c.write-group.new.plan
-          c.level-of-level.result _ c.requires.held c.requires.waits c.in-Whole.ensures.shipped
-          c.level-of-level.ensures.small c.take.ensures.taken c.write-group.ensures;
+          step_take c.args.tasks.now c.args.parts.now c.take.new.parts c.args.plan.now c.write_group.new.plan
+          c.level_of-level.result _ c.requires.held c.requires.waits c.in-Whole.ensures.shipped
+          c.level_of-level.ensures.small c.take.ensures.taken c.write_group.ensures;
       crews = crews_take c.requires.crews c.requires.held.stack.found c.take.ensures.taken;
       stepped = (c.take.ensures.taken.found, c.take.ensures.taken.top);
-      plan = λ k l. c.write-group.ensures.rest k l;
+      plan = λ k l. c.write_group.ensures.rest k l;
       work = λ k l. c.in-Whole.ensures.behind k l;
     }
 

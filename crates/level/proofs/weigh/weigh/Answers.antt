@@ -42,5 +42,5 @@ returns c =
     let few = c.requires.ready.few in
     let past =
     part_past c.tasks.from (length ts) (top_tasks p) (units ts) l
-    (crew_out crew c.tasks.from (length ts) (omega arith) (λ k g h. c.in-default.ensures k g)) in
+    (crew_out crew c.tasks.from (length ts) (omega arith) (λ k g h. c.in_default.ensures k g)) in
     record { value = c.tasks.invariant.1 ∙ sym past; small = omega arith }

@@ -10,7 +10,7 @@ loop-hour-init c d = concat_none _ _
 
 pub loop-hour-preserved : goal.loop-hour-preserved
 loop-hour-preserved c d =
-    concat_more _ _ _ _ _ _ (c.loop-hour.invariant d) c.in-ok-writeln.ensures.bytes
+    concat_more _ _ _ _ _ _ (c.loop-hour.invariant d) c.in_ok-writeln.ensures.bytes
     (ap (λ (x : Fraction). ended (hour_line c.loop-hour.hour x.num x.den))
     (get_or_read _ _ _ c.loop-hour-test.true c.index-loads-hour.is d))
 

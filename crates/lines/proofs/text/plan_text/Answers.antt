@@ -6,9 +6,9 @@ use Rattle.lines.proofs.text.plan_text.Goals as goal
 
 pub returns : goal.returns
 returns c d =
-    let told = c.in-ok-add-tasks.ensures in
+    let told = c.in_ok-add_tasks.ensures in
     let narrow = le-leb (length c.args.loads.now) max_hours (omega arith) in
     let rows = le-leb (length c.args.parts.now * max_hours) (length c.args.amounts.now) (omega arith) in (
       and_from _ _ narrow (and_from _ _ rows told.0),
-      text_both _ _ _ _ _ c.new-text.ensures.bytes (c.in-ok-add-hours.ensures d) told.1,
+      text_both _ _ _ _ _ c.new-text.ensures.bytes (c.in_ok-add_hours.ensures d) told.1,
     )

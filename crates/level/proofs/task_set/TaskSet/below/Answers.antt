@@ -8,5 +8,5 @@ unfolding holds
 returns c k =
     let a = c.below.ensures k in
     let b = c.below-2.ensures (k - 128) in
-    let n = c.saturating-sub.ensures in
+    let n = c.saturating_sub.ensures in
     grind (arith, nat_tests)

@@ -27,8 +27,8 @@ pub returns-in-Some-lowest : goal.returns-in-Some-lowest
 unfolding holds
 returns-in-Some-lowest c =
     let low = c.in-Some-lowest.ensures in
-    let none = none_any c.minus.result c.in-default.ensures in
-    let n = c.saturating-sub.ensures in
+    let none = none_any c.minus.result c.in_default.ensures in
+    let n = c.saturating_sub.ensures in
     let j = c.in-Some-lowest.j in
     let x : (128 + j) - 128 ≡ j = omega arith in
     let m = low.member in
@@ -51,9 +51,9 @@ returns-in-Some-lowest c =
 pub returns-in-None : goal.returns-in-None
 unfolding holds
 returns-in-None c k g =
-    let z = none_any c.minus.result c.in-default.ensures k in
+    let z = none_any c.minus.result c.in_default.ensures k in
     let y = none_any c.minus-2.result c.in-None.ensures (k - 128) in
-    let n = c.saturating-sub.ensures in
+    let n = c.saturating_sub.ensures in
     let e = c.minus.ensures k in
     let d = c.below.ensures k in
     let e' = c.minus-2.ensures (k - 128) in
