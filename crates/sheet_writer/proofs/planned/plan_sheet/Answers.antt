@@ -4,10 +4,10 @@ use Rattle.level.specs.Parts.{num, den}
 use Rattle.sheet_writer.proofs.Sheeted.{solved_plan, solved_written}
 use Rattle.sheet_writer.proofs.planned.plan_sheet.Goals as goal
 
-pub unreachable-requires-in-default-write : goal.unreachable-requires-in-default-write
-unreachable-requires-in-default-write c =
-    solved_written c.in-Ok.ensures c.args.sheet.now _ (omega (arith, c.plan-night.auto.plan)) (omega arith)
-    c.in-default-write.ensures.outcome.1
+pub unreachable-requires-in_default-write : goal.unreachable-requires-in_default-write
+unreachable-requires-in_default-write c =
+    solved_written c.in-Ok.ensures c.args.sheet.now _ (omega (arith, c.plan_night.auto.plan)) (omega arith)
+    c.in_default-write.ensures.outcome.1
 
 pub returns : goal.returns
 returns c =

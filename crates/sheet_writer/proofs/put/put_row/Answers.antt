@@ -24,13 +24,13 @@ loop-s-preserved-then-not-contains c =
       c.loop-s.invariant.2,
     )
 
-pub put-word-requires : goal.put-word-requires
-put-word-requires c =
+pub put_word-requires : goal.put_word-requires
+put_word-requires c =
     omega
     (arith, c.loop-s.invariant.0, c.requires.within, size_room c.loop-s.s c.args.hours (has c.args.set) c.loop-s-test.true (sym c.if-not-contains.ensures))
 
-pub overflow-add-at : goal.overflow-add-at
-overflow-add-at c =
+pub overflow_add-at : goal.overflow_add-at
+overflow_add-at c =
     omega
     (arith, c.loop-s.invariant.0, c.requires.within, size_room c.loop-s.s c.args.hours (has c.args.set) c.loop-s-test.true (sym c.if-not-contains.ensures))
 
@@ -43,11 +43,11 @@ loop-s-preserved c =
           elim (cases_eq i c.loop-s.s) [
             | inl e ↦
                 rw e
-                (listed_take c.put-word.new.b c.args.p c.loop-s.s c.loop-s.at set m c.loop-s.invariant.0 ∙ c.put-word.ensures.says)
+                (listed_take c.put_word.new.b c.args.p c.loop-s.s c.loop-s.at set m c.loop-s.invariant.0 ∙ c.put_word.ensures.says)
             | inr ne ↦
-                listed_kept c.loop-s.b c.put-word.new.b c.args.p i set
-                (λ k t. c.put-word.ensures.kept.before k (omega (arith, c.loop-s.invariant.0, size_room i c.loop-s.s set (omega arith) h)))
+                listed_kept c.loop-s.b c.put_word.new.b c.args.p i set
+                (λ k t. c.put_word.ensures.kept.before k (omega (arith, c.loop-s.invariant.0, size_room i c.loop-s.s set (omega arith) h)))
                 ∙ c.loop-s.invariant.1 i (omega arith) h
           ],
-      kept_join c.loop-s.invariant.2 c.put-word.ensures.kept (omega (arith, c.loop-s.invariant.0)) (omega arith),
+      kept_join c.loop-s.invariant.2 c.put_word.ensures.kept (omega (arith, c.loop-s.invariant.0)) (omega arith),
     )

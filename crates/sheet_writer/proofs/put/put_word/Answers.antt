@@ -6,7 +6,7 @@ pub returns : goal.returns
 returns c =
     record {
       says =
-          word_of c.put-eight.new.b c.to-le-bytes.result c.args.p c.args.n (omega arith) c.to-le-bytes.ensures
-          c.put-eight.ensures.says;
-      kept = record { before = c.put-eight.ensures.before; behind = c.put-eight.ensures.behind };
+          word_of c.put_eight.new.b c.to_le_bytes.result c.args.p c.args.n (omega arith) c.to_le_bytes.ensures
+          c.put_eight.ensures.says;
+      kept = record { before = c.put_eight.ensures.before; behind = c.put_eight.ensures.behind };
     }

@@ -11,8 +11,8 @@ use Rattle.sheet_writer.proofs.writer.put_tasks.Goals as goal
 pub loop-j-init : goal.loop-j-init
 loop-j-init c = (omega (arith, sum_none (row (day c.args.hours c.args.tasks.now))), record { groups = λ j l. absurd (omega arith); amounts = λ j s l. absurd (omega arith) }, kept_none _ _ _)
 
-pub put-task-requires : goal.put-task-requires
-put-task-requires c =
+pub put_task-requires : goal.put_task-requires
+put_task-requires c =
     let y = day c.args.hours c.args.tasks.now in
     let l : c.loop-j.j + 1 ≤ length c.args.tasks.now = omega arith in
     record {
@@ -34,20 +34,20 @@ bounded c =
     omega
     (arith, counted c, c.loop-j.invariant.0, c.requires.within, sum_step c.loop-j.j y.tasks (row y) c.loop-j-test.true)
 
-pub overflow-mul-at : goal.overflow-mul-at
-overflow-mul-at c = omega (arith, bounded c)
+pub overflow_mul-at : goal.overflow_mul-at
+overflow_mul-at c = omega (arith, bounded c)
 
-pub overflow-add-at : goal.overflow-add-at
-overflow-add-at c = omega (arith, bounded c)
+pub overflow_add-at : goal.overflow_add-at
+overflow_add-at c = omega (arith, bounded c)
 
-pub overflow-add-at-in-loop-j : goal.overflow-add-at-in-loop-j
-overflow-add-at-in-loop-j c = omega (arith, bounded c)
+pub overflow_add-at-in-loop-j : goal.overflow_add-at-in-loop-j
+overflow_add-at-in-loop-j c = omega (arith, bounded c)
 
 pub loop-j-preserved : goal.loop-j-preserved
 loop-j-preserved c =
     let y = day c.args.hours c.args.tasks.now in (
       omega (arith, counted c, c.loop-j.invariant.0, sum_more c.loop-j.j (row y)),
-      tasks_more c.loop-j.invariant.1 c.loop-j.invariant.0 c.put-task.ensures.kept c.put-task.ensures.group c.put-task.ensures.amounts,
+      tasks_more c.loop-j.invariant.1 c.loop-j.invariant.0 c.put_task.ensures.kept c.put_task.ensures.group c.put_task.ensures.amounts,
       kept_wide
-          (kept_join c.loop-j.invariant.2 c.put-task.ensures.kept (omega (arith, c.loop-j.invariant.0)) (omega arith)) (omega arith) (omega (arith, counted c)),
+          (kept_join c.loop-j.invariant.2 c.put_task.ensures.kept (omega (arith, c.loop-j.invariant.0)) (omega arith)) (omega arith) (omega (arith, counted c)),
     )

@@ -8,5 +8,5 @@ starts-starts-requires c =
       sound = c.requires.sound;
       near =
           omega
-          (arith, c.requires.sound.short, mul-le c.args.found c.row-bytes.result 255 12 c.requires.few (omega (arith, c.requires.sound.short)));
+          (arith, c.requires.sound.short, mul-le c.args.found c.row_bytes.result 255 12 c.requires.few (omega (arith, c.requires.sound.short)));
     }

@@ -8,7 +8,7 @@ pub returns : goal.returns
 returns c =
     let n = hours_of c.args.night.now in
     let ts = tasks_of c.args.night.now in
-    let w : MatchResult c.write-tasks.result (Wrote n ts c.args.loads.now c.args.groups.now c.args.found c.args.of.now c.args.plan.now c.args.sheet.now c.write-tasks.new.sheet)
-    (λ e. (c.write-tasks.new.sheet ≡ c.args.sheet.now) × NotWritten n ts c.args.loads.now c.args.found c.args.of.now c.args.plan.now c.args.sheet.now (why e)) =
+    let w : MatchResult c.write_tasks.result (Wrote n ts c.args.loads.now c.args.groups.now c.args.found c.args.of.now c.args.plan.now c.args.sheet.now c.write_tasks.new.sheet)
+    (λ e. (c.write_tasks.new.sheet ≡ c.args.sheet.now) × NotWritten n ts c.args.loads.now c.args.found c.args.of.now c.args.plan.now c.args.sheet.now (why e)) =
     search rules in
-    record { outcome = w; accepted = wrote_accepted n ts _ _ _ _ _ _ _ c.write-tasks.result _ w }
+    record { outcome = w; accepted = wrote_accepted n ts _ _ _ _ _ _ _ c.write_tasks.result _ w }
