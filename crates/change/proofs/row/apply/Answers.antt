@@ -20,14 +20,14 @@ own n cs h us ws e f made =
 pub unreachable-requires : goal.unreachable-requires
 unreachable-requires c =
     let o = own c.args.night.now c.args.row.now _ _ _ c.hours-hours.ensures
-    (c.in-ok-tasks.ensures.items ∙ c.tasks.ensures) c.in-ok-make-all.ensures in
+    (c.in_ok-tasks.ensures.items ∙ c.tasks.ensures) c.in_ok-make_all.ensures in
     c.in-None.ensures
-    (subst (λ k. Sound k (vec_items c.make-all.new.tasks)) (sym c.hours-hours.ensures)
+    (subst (λ k. Sound k (vec_items c.make_all.new.tasks)) (sym c.hours-hours.ensures)
     (subst (λ (ts : List Task). Sound (hours_of c.args.night.now) ts) (sym o.1) (sound_after c.args.night.now c.args.row.now o.0)))
 
 pub returns : goal.returns
 returns c =
     let o = own c.args.night.now c.args.row.now _ _ _ c.hours-hours.ensures
-    (c.in-ok-tasks.ensures.items ∙ c.tasks.ensures) c.in-ok-make-all.ensures in
+    (c.in_ok-tasks.ensures.items ∙ c.tasks.ensures) c.in_ok-make_all.ensures in
     changed c.args.night.now c.args.row.now o.0 c.in-Some.changed
     (c.in-Some.ensures.0 ∙ c.hours-hours.ensures) (c.in-Some.ensures.1 ∙ o.1)
