@@ -4,11 +4,11 @@ use Rattle.text.proofs.changes.add_change.Goals as goal
 
 pub returns-in-ok-push : goal.returns-in-ok-push
 returns-in-ok-push c =
-    passed_change _ _ c.content-of-text.result.now _ _ _ c.content-of-text.ensures (search rules)
-    c.in-ok-change.ensures.1 _ _ _ c.in-Some.is c.in-ok-change.ensures.0
+    passed_change _ _ c.content_of-text.result.now _ _ _ c.content_of-text.ensures (search rules)
+    c.in_ok-change.ensures.1 _ _ _ c.in-Some.is c.in_ok-change.ensures.0
     c.in-ok-push.ensures.items
 
 pub returns-in-None : goal.returns-in-None
 returns-in-None c =
-    passed_unclear _ _ c.content-of-text.result.now _ _ _ c.content-of-text.ensures (search rules)
-    c.in-ok-change.ensures.1 _ c.in-None.is c.in-ok-change.ensures.0
+    passed_unclear _ _ c.content_of-text.result.now _ _ _ c.content_of-text.ensures (search rules)
+    c.in_ok-change.ensures.1 _ c.in-None.is c.in_ok-change.ensures.0

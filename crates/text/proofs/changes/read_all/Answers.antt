@@ -8,8 +8,8 @@ use Rattle.text.proofs.changes.read_all.Goals as goal
 pub loop-line-init : goal.loop-line-init
 loop-line-init c = first_change _ _ _ c.new-changes.ensures.items
 
-pub overflow-add-number : goal.overflow-add-number
-overflow-add-number c =
+pub overflow_add-number : goal.overflow_add-number
+overflow_add-number c =
     let few = pieces_few (λ b. eqb b 10) c.args.text.now in
     let place = c.loop-line.invariant.place in
     search rules
@@ -19,11 +19,11 @@ loop-line-preserved c =
     let before =
     subst (λ ls. Upto (lines c.args.text.now) ls c.loop-line.number (vec_items c.loop-line.changes) (told c.args.mistakes.now) (told c.loop-line.mistakes))
     c.in-Some.ensures.more c.loop-line.invariant in
-    rw add-one (next_change before c.in-ok-add-change.ensures)
+    rw add-one (next_change before c.in_ok-add_change.ensures)
 
 pub returns : goal.returns
 returns c =
     let before =
     subst (λ ls. Upto (lines c.args.text.now) ls c.loop-line.number (vec_items c.loop-line.changes) (told c.args.mistakes.now) (told c.loop-line.mistakes))
-    c.in-default.ensures.one c.loop-line.invariant in
-    last_change (next_change before c.in-ok-add-change-2.ensures)
+    c.in_default.ensures.one c.loop-line.invariant in
+    last_change (next_change before c.in_ok-add_change-2.ensures)

@@ -11,10 +11,10 @@ returns c =
     record {
       hours = refl;
       wrong =
-          told_two (told c.args.reading.now.mistakes) (told c.check-count.new.mistakes) _ _ _
-          (c.in-ok-check-count.ensures ∙ ap (λ k. told c.args.reading.now.mistakes ++ many c.args.number k) count)
-          c.in-ok-task.ensures.1;
+          told_two (told c.args.reading.now.mistakes) (told c.check_count.new.mistakes) _ _ _
+          (c.in_ok-check_count.ensures ∙ ap (λ k. told c.args.reading.now.mistakes ++ many c.args.number k) count)
+          c.in_ok-task.ensures.1;
       listed = λ cs h.
-          simp (c.in-ok-push.ensures.items, c.in-ok-push-2.ensures.items)
-          (listed_push _ cs _ _ _ _ _ h c.in-ok-task.ensures.0);
+          simp (c.in_ok-push.ensures.items, c.in_ok-push-2.ensures.items)
+          (listed_push _ cs _ _ _ _ _ h c.in_ok-task.ensures.0);
     }

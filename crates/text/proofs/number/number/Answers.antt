@@ -2,8 +2,8 @@ use Rattle.std.proofs.Common.{arith, rules}
 use Rattle.text.proofs.Numbers.{digit_none, digit_more, digit_all}
 use Rattle.text.proofs.number.number.Goals as goal
 
-pub returns-then-not-is-ascii-digit : goal.returns-then-not-is-ascii-digit
-returns-then-not-is-ascii-digit c =
+pub returns-then-not-is_ascii_digit : goal.returns-then-not-is_ascii_digit
+returns-then-not-is_ascii_digit c =
     digit_none _ c.loop-b.n c.loop-b.b-index (search rules) c.loop-b.invariant (search rules)
 
 pub loop-b-preserved : goal.loop-b-preserved

@@ -10,5 +10,5 @@ finish-requires c = read_night _ _ c.in-Ok.ensures
 
 pub returns-in-Err : goal.returns-in-Err
 returns-in-Err c =
-    blames_lines c.args.text.now _ _ _ c.in-default.ensures c.in-Ok.ensures.wrong
+    blames_lines c.args.text.now _ _ _ c.in_default.ensures c.in-Ok.ensures.wrong
     c.in-Err.ensures.0 c.in-Err.ensures.1

@@ -4,6 +4,6 @@ use Rattle.text.proofs.task_line.add_word.Goals as goal
 
 pub returns : goal.returns
 returns c =
-    c.in-ok-extend-from-slice-2.ensures.items
-    ∙ ap (λ l. l ++ c.args.word.now) c.in-ok-push.ensures.items
+    c.in_ok-extend_from_slice-2.ensures.items
+    ∙ ap (λ l. l ++ c.args.word.now) c.in_ok-push.ensures.items
     ∙ spaced_more _ _ (search rules)

@@ -6,6 +6,6 @@ use Rattle.text.proofs.task_line.read_name.Goals as goal
 
 pub loop-word-preserved : goal.loop-word-preserved
 loop-word-preserved c =
-    ap (λ t. title t (words c.in-Some.after.now)) c.in-ok-add-word.ensures
-    ∙ title_more _ _ _ _ _ _ c.in-Some.ensures.0 c.in-Some-next-word.ensures.0
+    ap (λ t. title t (words c.in-Some.after.now)) c.in_ok-add_word.ensures
+    ∙ title_more _ _ _ _ _ _ c.in-Some.ensures.0 c.in-Some-next_word.ensures.0
     ∙ c.loop-word.invariant

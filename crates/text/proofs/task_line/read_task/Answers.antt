@@ -8,9 +8,9 @@ use Rattle.text.proofs.task_line.read_task.Goals as goal
 pub returns : goal.returns
 returns c =
     let p = c.in-Some.ensures in (
-      simp c.task-of-task-2.ensures.same (entered p _ _ _ _ (c.in-ok-units.ensures.0 ∙ ap (λ w. units_said (numeral w)) c.last-word.ensures)
-          c.task-of-task-2.ensures.word c.in-ok-hours.ensures.0 c.in-ok-name.ensures),
-      wrong_entered p _ _ (told c.args.mistakes.now) (told c.read-units.new.mistakes)
-          (told c.read-hours.new.mistakes) c.last-word.result.now c.last-word.ensures
-          c.in-ok-units.ensures.1 c.in-ok-hours.ensures.1,
+      simp c.task_of-task-2.ensures.same (entered p _ _ _ _ (c.in_ok-units.ensures.0 ∙ ap (λ w. units_said (numeral w)) c.last_word.ensures)
+          c.task_of-task-2.ensures.word c.in_ok-hours.ensures.0 c.in_ok-name.ensures),
+      wrong_entered p _ _ (told c.args.mistakes.now) (told c.read_units.new.mistakes)
+          (told c.read_hours.new.mistakes) c.last_word.result.now c.last_word.ensures
+          c.in_ok-units.ensures.1 c.in_ok-hours.ensures.1,
     )

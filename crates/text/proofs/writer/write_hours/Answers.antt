@@ -5,4 +5,4 @@ pub loop-k-init : goal.loop-k-init
 loop-k-init c = hours_none _ _
 
 pub loop-k-preserved : goal.loop-k-preserved
-loop-k-preserved c = hours_more _ c.loop-k.k _ _ _ c.loop-k.invariant c.in-ok-write-hour.ensures
+loop-k-preserved c = hours_more _ c.loop-k.k _ _ _ c.loop-k.invariant c.in_ok-write_hour.ensures

@@ -4,9 +4,9 @@ use Rattle.text.proofs.writer.write_task.Goals as goal
 
 pub returns : goal.returns
 returns c =
-    let units : string_bytes c.in-ok-text.text ≡ decimal c.args.task.units ++ codes " :" = search rules in
+    let units : string_bytes c.in_ok-text.text ≡ decimal c.args.task.units ++ codes " :" = search rules in
     task_whole c.args.hours c.args.name.now c.args.task (string_bytes c.args.out.now)
-    (string_bytes c.write-label.new.out) (string_bytes c.push-str.new.self) (string_bytes c.write-hours.new.out) _
-    c.in-ok-write-label.ensures
-    (c.in-ok-push-str.ensures.bytes ∙ ap (λ l. string_bytes c.write-label.new.out ++ l) (c.as-str.ensures.value ∙ units))
-    c.in-ok-write-hours.ensures c.in-ok-push-str-2.ensures.bytes
+    (string_bytes c.write_label.new.out) (string_bytes c.push_str.new.self) (string_bytes c.write_hours.new.out) _
+    c.in_ok-write_label.ensures
+    (c.in_ok-push_str.ensures.bytes ∙ ap (λ l. string_bytes c.write_label.new.out ++ l) (c.as_str.ensures.value ∙ units))
+    c.in_ok-write_hours.ensures c.in_ok-push_str-2.ensures.bytes

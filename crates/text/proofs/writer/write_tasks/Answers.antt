@@ -12,6 +12,6 @@ loop-j-preserved c =
     let j = c.loop-j.j in (
       lines_more c.args.hours c.args.tasks.now c.args.names.now j (string_bytes c.args.out.now) _ _ c.loop-j.invariant.0
           (c.in-Ok.ensures
-          ∙ ap (λ m. string_bytes c.loop-j.out ++ task_text c.args.hours m (get_or c.args.tasks.now j blank_task)) c.name-of-name.ensures),
-      below_more _ _ c.loop-j.invariant.1 (sym (c.if-not-is-plain.ensures ∙ ap plain c.name-of-name.ensures)),
+          ∙ ap (λ m. string_bytes c.loop-j.out ++ task_text c.args.hours m (get_or c.args.tasks.now j blank_task)) c.name_of-name.ensures),
+      below_more _ _ c.loop-j.invariant.1 (sym (c.if-not-is_plain.ensures ∙ ap plain c.name_of-name.ensures)),
     )
