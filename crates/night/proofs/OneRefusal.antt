@@ -7,7 +7,7 @@ use Rattle.night.specs.Format.{WellFormed, width, hours_in, count_in, task_in, e
 use Rattle.night.specs.Refusal.{Fault, First}
 use Rattle.night.specs.Refusal.Fault.{hours, tasks, units, row, goes_on}
 use Rattle.night.specs.Refusal.First.{missing, fault}
-use Rattle.night.specs.Theorems.{OnlyRefusal}
+use Rattle.night.specs.Theorems.{OneRefusal}
 use Rattle.night.proofs.Places.{place_next}
 use Rattle.night.proofs.Rows.{fits_row}
 
@@ -78,5 +78,5 @@ none : (b : List ℕ) (n p : ℕ) → First b n p → WellFormed b → ⊥
 none b n p (missing l e x) g = omega (arith, g.ends)
 none b n p (fault whole f least) g = no_fault b n p g f
 
-pub one_refusal : (b : List ℕ) (n p : ℕ) → First b n p → OnlyRefusal b n p
+pub one_refusal : OneRefusal
 one_refusal b n p f = (λ m q g. one b n p m q f g, none b n p f)

@@ -7,7 +7,7 @@ use Rattle.night.specs.declared.task.Task.{Task}
 use Rattle.night.specs.Bytes.{little, digits}
 use Rattle.night.specs.Format.{width, place, number_at, hours_in, count_in, units_in, row_in, task_in, task_bytes, night_bytes, WellFormed, Says}
 use Rattle.night.specs.Task.{blank_task, Fits, Sound}
-use Rattle.night.specs.Theorems.{Bytes, ReadsBack}
+use Rattle.night.specs.Theorems.{Bytes, ReadsBack, WritesBack}
 use Rattle.night.proofs.Places.{place_next}
 use Rattle.night.proofs.Digits.{length_digits, little_digits, digits_little}
 
@@ -94,7 +94,7 @@ module _ (n : ℕ) (ts : List Task) (g : Sound n ts) (j : ℕ) (l : j < length t
       let h : ℕ → Task = λ k. record { units = (get_or ts j blank_task).units; hours = record { bits = k } } in
       ap f written_units ∙ ap h written_row
 
-pub reads_back : (n : ℕ) (ts : List Task) → Sound n ts → ReadsBack n ts
+pub reads_back : ReadsBack
 reads_back n ts g = (
   record {
     some = g.some;
@@ -135,7 +135,7 @@ front_two [] l = absurd (omega arith)
 front_two (x ∷ []) l = absurd (omega arith)
 front_two (x ∷ (y ∷ b)) l = refl
 
-pub writes_back : (b : List ℕ) (n : ℕ) (ts : List Task) → Bytes b → WellFormed b → Says b n ts → night_bytes n ts ≡ b
+pub writes_back : WritesBack
 writes_back b n ts h g s =
     let w = width (hours_in b) in
     let rows : flat_map (task_bytes w) ts ≡ drop 2 b =

@@ -6,7 +6,7 @@ use Rattle.std.proofs.lemmas.Bool.{cases_lt}
 use Rattle.sets.specs.Bit.{bit}
 use Rattle.night.specs.Bytes.{little}
 use Rattle.night.specs.Format.{WellFormed, width, place, hours_in, count_in, task_in}
-use Rattle.night.specs.Theorems.{Bytes, RowBit}
+use Rattle.night.specs.Theorems.{Bytes, RowBits}
 use Rattle.sets.proofs.Bits.{bit_zero, bit_suc, bit_first}
 use Rattle.sets.proofs.Members.{has_bit}
 
@@ -56,7 +56,7 @@ part_bytes b p w i h =
           rw (get_or_past (take w (drop p b)) i 0 past) (omega arith)
     ]
 
-pub row_bits : (b : List ℕ) → Bytes b → WellFormed b → (j i : ℕ) → j < count_in b → i < hours_in b → RowBit b j i
+pub row_bits : RowBits
 row_bits b h g j i l m =
     let w = width (hours_in b) in
     let p = place w j + 4 in
