@@ -85,7 +85,7 @@ impl Lane {
 
 // Plans the night in a file, and prints what was found and how long it takes.
 fn race(rt: &HostRuntime, name: &str) -> Result<(), Fault> {
-    let mut lane = Lane::new(rt.alloc(), night_from(rt, name, Form::Bytes)?.night)?;
+    let mut lane = Lane::new(rt.alloc(), night_from(rt, name, Form::Bytes)?)?;
     let Ok(planned) = plan_sheet(&lane.night, &mut lane.plan, &mut lane.work, &mut lane.sheet)
     else {
         return Err(console::usage(rt, "the lent memory is too short")?);

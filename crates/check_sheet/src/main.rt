@@ -58,9 +58,9 @@ fn run(rt: &HostRuntime) -> Result<(), Fault> {
     } else {
         Form::Bytes
     };
-    let named = night_from(rt, night, form)?;
+    let night = night_from(rt, night, form)?;
     let bytes = read_input(rt, sheet)?;
-    verdict(rt, sheet::check(&named.night, bytes.as_slice()))
+    verdict(rt, sheet::check(&night, bytes.as_slice()))
 }
 
 fn main(rt: HostRuntime) -> Result<(), Fault> {

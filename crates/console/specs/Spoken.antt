@@ -10,7 +10,7 @@ Word words i text = HoldsAt (λ w. string_bytes w ≡ text) words i
 
 -- a text stands among the words
 abbrev pub Spoken : List (String Global) → List ℕ → Type 0
-Spoken words text = (i : ℕ) × (i < length words) × Word words i text
+Spoken words text = (i : ℕ) × (i < length words) × HoldsAt (λ w. string_bytes w ≡ text) words i
 
 -- the value of the first option of a name
 pub record Valued (options values : List (String Global)) (name value : List ℕ) : Type 0 where

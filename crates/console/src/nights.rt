@@ -1,6 +1,7 @@
 // Nights and changes from files.
 use super::{Fault, read_input, refuse};
 use change::kinds::Change;
+use night::night::Night;
 use std::io;
 use text::changes::read_changes;
 use text::reader::{TextNight, read_text};
@@ -27,7 +28,11 @@ fn blame(rt: &HostRuntime, name: &str, e: ReadError) -> Result<Fault, io::Error>
 }
 
 // The night in a file, with the names of its tasks, of which bytes have none; a refusal, or each mistake of a text, is printed.
-pub fn night_from(rt: &HostRuntime, name: &str, form: Form) -> Result<TextNight, Fault> {
+pub fn named_night_from(
+    rt: &HostRuntime,
+    name: &str,
+    form: Form,
+) -> Result<TextNight, Fault> {
     let heap = rt.alloc();
     let bytes = read_input(rt, name)?;
     match form {
@@ -43,6 +48,11 @@ pub fn night_from(rt: &HostRuntime, name: &str, form: Form) -> Result<TextNight,
             Err(e) => Err(blame(rt, name, e)?),
         },
     }
+}
+
+// The night in a file; a refusal, or each mistake of a text, is printed.
+pub fn night_from(rt: &HostRuntime, name: &str, form: Form) -> Result<Night, Fault> {
+    Ok(named_night_from(rt, name, form)?.night)
 }
 
 // The row of changes in a file of text.

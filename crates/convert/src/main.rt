@@ -1,7 +1,7 @@
 // Turns a night as people write it into bytes, and back.
 #![tactic(auto)]
 
-use console::nights::{Form, night_from};
+use console::nights::{Form, named_night_from};
 use console::words::{Words, given};
 use console::{Fault, read_input, write_output};
 use lines::RefusedLine;
@@ -22,7 +22,7 @@ Example: convert --to-bytes examples/island.txt island.night";
 
 // The bytes of the night in a text.
 fn bytes_of(rt: &HostRuntime, name: &str) -> Result<Vec<u8>, Fault> {
-    let read = night_from(rt, name, Form::Text)?;
+    let read = named_night_from(rt, name, Form::Text)?;
     Ok(night::write(rt.alloc(), &read.night)?)
 }
 

@@ -6,7 +6,7 @@ mod names;
 mod output;
 
 use change::evening::prepare;
-use console::nights::{Form, changes_from, night_from};
+use console::nights::{Form, changes_from, named_night_from};
 use console::words::{Words, given};
 use console::{Fault, refuse};
 use help::{HELP, VERSION};
@@ -21,7 +21,7 @@ fn run_with(rt: &HostRuntime, words: &Words) -> Result<(), Fault> {
     } else {
         Form::Bytes
     };
-    let mut read = night_from(rt, words.plain(0).unwrap_or("-"), form)?;
+    let mut read = named_night_from(rt, words.plain(0).unwrap_or("-"), form)?;
     let row = match words.value("--changes") {
         Some(name) => changes_from(rt, name)?,
         None => Vec::new(heap),
