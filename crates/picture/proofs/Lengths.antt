@@ -1,9 +1,9 @@
 -- Laws of the lengths of bars.
-use Rattle.std.proofs.Common.{◌≡◌, ℕ, ◌+◌, ◌-◌, ◌*◌, ◌/◌, ◌<◌, ◌≤◌, min, true, false, cond, eqb, ltb, sym, refl, ap, ◌∙◌, inl, inr, mul_comm, div-lt_iff_lt-mul, mul-pos, one-mul, le-div_iff_mul-le, zero-add, zero-mul, arith}
+use Rattle.std.proofs.Common.{◌≡◌, ℕ, ◌+◌, ◌-◌, ◌*◌, ◌/◌, ◌<◌, ◌≤◌, min, refl, ◌∙◌, mul_comm, div-lt_iff_lt-mul, mul-pos, one-mul, le-div_iff_mul-le, zero-mul, arith}
 use native.Mathlib.Nat.{div-eq_of_lt}
 use lib.Arith.{digits_div}
 use Rattle.std.proofs.lemmas.Bool.{eq-eqb, ne_eqb}
-use Rattle.picture.specs.Length.{bar_length, Bar}
+use Rattle.picture.specs.Length.{Bar}
 
 -- no largest load: no bar
 pub bar_none : (w a b m d : ℕ) → 0 < b → m * b ≡ 0 → Bar w a b m d 0

@@ -1,5 +1,5 @@
 -- Bars of characters. Assumes nothing: these are definitions.
-use Rattle.std.specs.Prelude.{◌≡◌, ℕ, zero, suc, ◌%◌, ◌<◌, true, cond, List, [], ◌++◌, length, Some, None, codes, decimal, Option, ◌==◌, nat_lt}
+use Rattle.std.specs.Prelude.{◌≡◌, ℕ, ◌%◌, ◌<◌, true, cond, List, [], ◌++◌, length, Some, None, codes, decimal, Option, ◌==◌, nat_lt}
 use Rattle.fraction.specs.declared.exact.Fraction.{Fraction}
 use Rattle.fraction.specs.Fraction.{at_most, fraction_text}
 use Rattle.night.specs.Night.{hours_of}

@@ -8,7 +8,6 @@ use crate::drawn::{Drawn, group_of, load_of};
 use crate::length::{bar, largest};
 use fraction::Fraction;
 use std::alloc::{AllocError, Global};
-use std::fmt;
 
 // The longest bar.
 const LONG: u64 = 52;
@@ -34,7 +33,7 @@ fn mark_in(group: Option<usize>) -> &'static str
 }
 
 // A mark, again and again.
-fn write_times(out: &mut String, mark: &str, count: u64) -> fmt::Result
+fn write_times(out: &mut String, mark: &str, count: u64) -> Result<(), AllocError>
     ensures { OnOk result (string_bytes out.new ≡ string_bytes out.old ++ times count mark.now) }
 {
     for _ in 0..count {
@@ -51,7 +50,13 @@ fn pad_of(hour: usize) -> &'static str
 }
 
 // The line of an hour: its number, its bar, its load.
-fn write_bar(out: &mut String, hour: usize, mark: &str, long: u64, load: Fraction) -> fmt::Result
+fn write_bar(
+    out: &mut String,
+    hour: usize,
+    mark: &str,
+    long: u64,
+    load: Fraction,
+) -> Result<(), AllocError>
     ensures { OnOk result (string_bytes out.new ≡ string_bytes out.old ++ bar_line hour mark.now long load.num load.den) }
 {
     let pad = pad_of(hour);
@@ -62,7 +67,7 @@ fn write_bar(out: &mut String, hour: usize, mark: &str, long: u64, load: Fractio
 }
 
 // The lines of all hours.
-fn write_bars(out: &mut String, drawn: Drawn, most: Fraction) -> fmt::Result
+fn write_bars(out: &mut String, drawn: Drawn, most: Fraction) -> Result<(), AllocError>
     ensures { OnOk result (string_bytes out.new ≡ string_bytes out.old ++ hour_bars drawn.entry most.num most.den) }
 {
     for s in 0..drawn.night.hours() {
@@ -78,8 +83,6 @@ pub fn bars(heap: Global, drawn: Drawn) -> Result<String, AllocError>
     ensures { IfOk result (λ s. Lined drawn.entry (string_bytes s)) }
 {
     let mut out = String::from_str(heap, HEAD)?;
-    match write_bars(&mut out, drawn, largest(drawn.loads)) {
-        Ok(()) => Ok(out),
-        Err(_) => Err(AllocError),
-    }
+    write_bars(&mut out, drawn, largest(drawn.loads))?;
+    Ok(out)
 }

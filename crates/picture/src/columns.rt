@@ -9,7 +9,7 @@ use crate::frame::{Area, BASE, Frame, HIGH, LEFT};
 use crate::label::write_head;
 use crate::length::bar;
 use fraction::Fraction;
-use std::fmt;
+use std::alloc::AllocError;
 
 // How a group is filled: there are eight ways, and a ninth for no group.
 pub fn fill_of(group: Option<usize>) -> usize
@@ -22,7 +22,7 @@ pub fn fill_of(group: Option<usize>) -> usize
 }
 
 // A load above its bar, turned where there is no room.
-fn write_load(out: &mut String, area: Area, load: Fraction) -> fmt::Result
+fn write_load(out: &mut String, area: Area, load: Fraction) -> Result<(), AllocError>
     requires { (area.x ≤ 6000) × ((area.wide ≤ 60) × (140 ≤ area.y)) }
 {
     let (x, y) = (area.x + area.wide / 2, area.y - 5);
@@ -41,7 +41,13 @@ fn write_load(out: &mut String, area: Area, load: Fraction) -> fmt::Result
 }
 
 // The bar of hour s.
-fn write_column(out: &mut String, s: usize, area: Area, load: Fraction, fill: usize) -> fmt::Result
+fn write_column(
+    out: &mut String,
+    s: usize,
+    area: Area,
+    load: Fraction,
+    fill: usize,
+) -> Result<(), AllocError>
     ensures { OnOk result (string_bytes out.new ≡ string_bytes out.old ++ bar_text s area.x area.y area.wide area.high fill load.num load.den) }
 {
     let Area { x, y, wide, high } = area;
@@ -57,7 +63,12 @@ fn write_column(out: &mut String, s: usize, area: Area, load: Fraction, fill: us
 }
 
 // The bars of all hours.
-pub fn write_columns(out: &mut String, frame: Frame, drawn: Drawn, most: Fraction) -> fmt::Result
+pub fn write_columns(
+    out: &mut String,
+    frame: Frame,
+    drawn: Drawn,
+    most: Fraction,
+) -> Result<(), AllocError>
     ensures { OnOk result (string_bytes out.new ≡ string_bytes out.old ++ concat frame.hours (column_at drawn.entry frame.column most.num most.den)) }
 {
     for s in 0..frame.hours {
@@ -71,7 +82,12 @@ pub fn write_columns(out: &mut String, frame: Frame, drawn: Drawn, most: Fractio
 }
 
 // The loads above the bars, and the line below them.
-pub fn write_loads(out: &mut String, frame: Frame, drawn: Drawn, most: Fraction) -> fmt::Result {
+pub fn write_loads(
+    out: &mut String,
+    frame: Frame,
+    drawn: Drawn,
+    most: Fraction,
+) -> Result<(), AllocError> {
     for s in 0..frame.hours {
         let load = load_of(drawn.loads, s);
         let high = bar(load, most, HIGH as u64) as usize;
@@ -82,7 +98,7 @@ pub fn write_loads(out: &mut String, frame: Frame, drawn: Drawn, most: Fraction)
 }
 
 // The numbers of the hours, as many as there is room for.
-pub fn write_hours(out: &mut String, frame: Frame, y: usize) -> fmt::Result {
+pub fn write_hours(out: &mut String, frame: Frame, y: usize) -> Result<(), AllocError> {
     let apart = if frame.column < 20 { 4 } else { 1 };
     for s in 0..frame.hours {
         if s % apart == 0 {
@@ -97,7 +113,7 @@ pub fn write_hours(out: &mut String, frame: Frame, y: usize) -> fmt::Result {
 }
 
 // The numbers of the groups of the hours, turned where columns are narrow.
-fn write_groups(out: &mut String, frame: Frame, drawn: Drawn) -> fmt::Result {
+fn write_groups(out: &mut String, frame: Frame, drawn: Drawn) -> Result<(), AllocError> {
     let (y, high) = (BASE + 33, BASE + 24);
     for s in 0..frame.hours {
         if let Some(g) = group_of(drawn.groups, s) {
@@ -120,7 +136,7 @@ fn write_groups(out: &mut String, frame: Frame, drawn: Drawn) -> fmt::Result {
 }
 
 // The numbers of the hours and of their groups.
-pub fn write_numbers(out: &mut String, frame: Frame, drawn: Drawn) -> fmt::Result {
+pub fn write_numbers(out: &mut String, frame: Frame, drawn: Drawn) -> Result<(), AllocError> {
     write_head(out, LEFT - 10, BASE + 16, "end", "hour")?;
     write_hours(out, frame, BASE + 16)?;
     write_head(out, LEFT - 10, BASE + 33, "end", "group")?;

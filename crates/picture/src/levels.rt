@@ -6,10 +6,16 @@ use crate::drawn::{Drawn, load_of};
 use crate::frame::{BASE, Frame, HIGH};
 use crate::length::bar;
 use fraction::{Fraction, MAX_HOURS};
-use std::fmt;
+use std::alloc::AllocError;
 
 // A line from an hour to the right at the height of a level, and on to its text where that is near.
-fn write_line(out: &mut String, from: usize, right: usize, high: usize, y: usize) -> fmt::Result
+fn write_line(
+    out: &mut String,
+    from: usize,
+    right: usize,
+    high: usize,
+    y: usize,
+) -> Result<(), AllocError>
     requires { (right ≤ 6000) × (high ≤ 400) }
 {
     let bend = right + 40;
@@ -32,7 +38,7 @@ fn write_level(
     g: usize,
     level: Fraction,
     hours: usize,
-) -> fmt::Result
+) -> Result<(), AllocError>
     requires { (right ≤ 6000) × ((10 ≤ y) × (y ≤ 6000)) }
 {
     let (box_x, box_y, text_x, text_y) = (right + 44, y - 6, right + 64, y + 4);
@@ -56,7 +62,7 @@ fn write_group(
     most: Fraction,
     g: usize,
     free: usize,
-) -> Result<usize, fmt::Error>
+) -> Result<usize, AllocError>
     requires { free ≤ 4000 }
     ensures { IfOk result (λ y. (free ≤ y) × (y ≤ max free 400 + 17)) }
 {
@@ -81,7 +87,7 @@ pub fn write_levels(
     frame: Frame,
     drawn: Drawn,
     most: Fraction,
-) -> Result<usize, fmt::Error>
+) -> Result<usize, AllocError>
     ensures { IfOk result (λ y. y ≤ 5000) }
 {
     let mut free = 0;

@@ -11,8 +11,7 @@ use crate::length::bar;
 use fraction::Fraction;
 use night::task::Task;
 use sets::hours::Hours;
-use std::alloc::Global;
-use std::fmt;
+use std::alloc::{AllocError, Global};
 
 // The end of the run of hours of a set from s on.
 fn run_end(set: Hours, s: usize, hours: usize) -> usize
@@ -31,7 +30,7 @@ fn run_end(set: Hours, s: usize, hours: usize) -> usize
 }
 
 // A light bar for each run of hours in which task j may be done.
-fn write_windows(out: &mut String, frame: Frame, set: Hours, j: usize) -> fmt::Result
+fn write_windows(out: &mut String, frame: Frame, set: Hours, j: usize) -> Result<(), AllocError>
     requires { j < 200 }
 {
     for s in 0..frame.hours {
@@ -69,7 +68,7 @@ fn write_amount(
     area: Area,
     amount: Fraction,
     most: Fraction,
-) -> fmt::Result
+) -> Result<(), AllocError>
     requires { (area.x ≤ 6000) × ((area.y ≤ 6000) × ((2 ≤ area.wide) × ((area.wide ≤ 60) × (area.high ≤ 60)))) }
 {
     let Area { x, y, wide, high } = area;
@@ -95,7 +94,7 @@ fn write_amount(
 }
 
 // What is done of task j.
-fn write_amounts(out: &mut String, frame: Frame, drawn: Drawn, j: usize) -> fmt::Result
+fn write_amounts(out: &mut String, frame: Frame, drawn: Drawn, j: usize) -> Result<(), AllocError>
     requires { j < 200 }
 {
     let most = most_of(drawn, frame.hours, j);
@@ -115,14 +114,12 @@ fn write_name(
     j: usize,
     units: u32,
     y: usize,
-) -> fmt::Result {
+) -> Result<(), AllocError> {
     let name = match drawn.names.get(j) {
         Some(name) => name.as_str(),
         None => "",
     };
-    let Ok(name) = escape(heap, name) else {
-        return Err(fmt::Error);
-    };
+    let name = escape(heap, name)?;
     let at = LEFT - 10;
     writeln!(
         out,
@@ -142,7 +139,7 @@ fn write_row(
     drawn: Drawn,
     j: usize,
     task: Task,
-) -> fmt::Result
+) -> Result<(), AllocError>
     requires { j < 200 }
 {
     let (y, right) = (frame.y(j), frame.right());
@@ -153,7 +150,12 @@ fn write_row(
 }
 
 // The rows of all tasks, under a title.
-pub fn write_rows(heap: Global, out: &mut String, frame: Frame, drawn: Drawn) -> fmt::Result {
+pub fn write_rows(
+    heap: Global,
+    out: &mut String,
+    frame: Frame,
+    drawn: Drawn,
+) -> Result<(), AllocError> {
     write_title(
         out,
         ROWS - 36,

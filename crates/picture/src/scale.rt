@@ -2,7 +2,7 @@
 use crate::frame::{BASE, Frame, HIGH, LEFT};
 use crate::length::bar;
 use fraction::Fraction;
-use std::fmt;
+use std::alloc::AllocError;
 
 // Units between two lines: 1, 2 or 5, with zeros.
 fn step_of(top: u64) -> u64 {
@@ -24,7 +24,12 @@ fn step_of(top: u64) -> u64 {
 }
 
 // A line at a number of units.
-fn write_line(out: &mut String, frame: Frame, units: u64, most: Fraction) -> fmt::Result {
+fn write_line(
+    out: &mut String,
+    frame: Frame,
+    units: u64,
+    most: Fraction,
+) -> Result<(), AllocError> {
     let Some(load) = Fraction::whole(units) else {
         return Ok(());
     };
@@ -38,7 +43,7 @@ fn write_line(out: &mut String, frame: Frame, units: u64, most: Fraction) -> fmt
 }
 
 // The lines, and what they count.
-pub fn write_scale(out: &mut String, frame: Frame, most: Fraction) -> fmt::Result {
+pub fn write_scale(out: &mut String, frame: Frame, most: Fraction) -> Result<(), AllocError> {
     let top = most.num() / most.den();
     let step = step_of(top);
     for k in 0..7u64 {

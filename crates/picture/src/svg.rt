@@ -12,7 +12,6 @@ use crate::rows::write_rows;
 use crate::scale::write_scale;
 use fraction::Fraction;
 use std::alloc::{AllocError, Global};
-use std::fmt;
 
 // Eight fillings that differ in colour and, for those who see or print none, in their lines; and a ninth for no group.
 const FILLS: &str =
@@ -28,7 +27,7 @@ const FILLS: &str =
 ";
 
 // The fillings, a white ground, and a title.
-fn write_ground(out: &mut String, width: usize, height: usize) -> fmt::Result {
+fn write_ground(out: &mut String, width: usize, height: usize) -> Result<(), AllocError> {
     writeln!(
         out,
         "<title>An even plan</title>\n<defs>\n{FILLS}<clipPath id=\"names\"><rect width=\"140\" height=\"{height}\"/></clipPath>\n</defs>"
@@ -51,7 +50,7 @@ fn write_behind(
     frame: Frame,
     drawn: Drawn,
     most: Fraction,
-) -> Result<usize, fmt::Error>
+) -> Result<usize, AllocError>
     ensures { IfOk result (λ h. 500 + frame.tasks * frame.row < h) }
 {
     let mut levels = String::new(heap);
@@ -70,7 +69,7 @@ fn write_after(
     frame: Frame,
     drawn: Drawn,
     most: Fraction,
-) -> fmt::Result {
+) -> Result<(), AllocError> {
     write_loads(out, frame, drawn, most)?;
     write_numbers(out, frame, drawn)?;
     write_rows(heap, out, frame, drawn)
@@ -83,17 +82,11 @@ pub fn svg(heap: Global, drawn: Drawn) -> Result<String, AllocError>
     let frame = Frame::new(drawn.night.hours(), drawn.night.tasks().len());
     let most = largest(drawn.loads);
     let mut behind = String::new(heap);
-    let Ok(height) = write_behind(heap, &mut behind, frame, drawn, most) else {
-        return Err(AllocError);
-    };
+    let height = write_behind(heap, &mut behind, frame, drawn, most)?;
     let mut bars = String::new(heap);
-    let Ok(()) = write_columns(&mut bars, frame, drawn, most) else {
-        return Err(AllocError);
-    };
+    write_columns(&mut bars, frame, drawn, most)?;
     let mut after = String::new(heap);
-    let Ok(()) = write_after(heap, &mut after, frame, drawn, most) else {
-        return Err(AllocError);
-    };
+    write_after(heap, &mut after, frame, drawn, most)?;
     let body = format!(in heap; "{behind}{bars}{after}")?;
     let width = frame.width();
     let text = format!(in heap;

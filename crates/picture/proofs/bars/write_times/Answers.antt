@@ -6,4 +6,4 @@ pub loop-init : goal.loop-init
 loop-init c = concat_none _ _
 
 pub loop-preserved : goal.loop-preserved
-loop-preserved c = concat_more _ _ _ _ _ _ c.loop.invariant c.in-ok-write.ensures.bytes refl
+loop-preserved c = concat_more _ _ _ _ _ _ c.loop.invariant c.in_ok-write.ensures.bytes refl

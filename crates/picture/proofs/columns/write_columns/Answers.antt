@@ -8,11 +8,11 @@ loop-s-init c = concat_none _ _
 
 pub loop-s-preserved : goal.loop-s-preserved
 loop-s-preserved c =
-    let place = c.bar-area-area.ensures.place in
-    concat_more _ _ _ _ _ _ c.loop-s.invariant c.in-ok-write-column.ensures
+    let place = c.bar_area-area.ensures.place in
+    concat_more _ _ _ _ _ _ c.loop-s.invariant c.in_ok-write_column.ensures
     (column_is c.args.drawn c.args.frame.column c.args.most.num c.args.most.den c.loop-s.s _ _ _ _ _ _ _ _
-    place.0 place.1 (omega (arith, place.2, place.3)) c.fill-of-fill.ensures c.group-of.ensures
-    c.load-of-load.ensures.0 c.load-of-load.ensures.1 (place.3 ∙ c.bar-high.ensures.value))
+    place.0 place.1 (omega (arith, place.2, place.3)) c.fill_of-fill.ensures c.group_of.ensures
+    c.load_of-load.ensures.0 c.load_of-load.ensures.1 (place.3 ∙ c.bar-high.ensures.value))
 
 pub returns : goal.returns
 returns c =

@@ -11,14 +11,14 @@ loop-c-preserved c =
     let inv = c.loop-c.invariant in
     let step = c.in-Some.ensures.steps.0 in (
       IsUtf8-past_char (chars_rest c.loop-c.c-iterator) (chars_rest c.next.new.self) c.in-Some.c inv.0 step,
-      escaped_more (string_bytes c.loop-c.out) (string_bytes c.write-char.new.out)
+      escaped_more (string_bytes c.loop-c.out) (string_bytes c.write_char.new.out)
           (chars_rest c.loop-c.c-iterator) (chars_rest c.next.new.self) (escaped c.args.text.now) c.in-Some.c
-          inv.0 step inv.1 c.in-ok-write-char.ensures,
+          inv.0 step inv.1 c.in_ok-write_char.ensures,
     )
 
-pub returns-in-err-write-char : goal.returns-in-err-write-char
-returns-in-err-write-char c =
-    let p = err_from_is_err_and c.from-residual.result c.from-residual.ensures.1 in rw p.1 tt
+pub returns-in_err-write_char : goal.returns-in_err-write_char
+returns-in_err-write_char c =
+    let p = err_from_is_err_and c.from_residual.result c.from_residual.ensures.1 in rw p.1 tt
 
 pub returns : goal.returns
 returns c =

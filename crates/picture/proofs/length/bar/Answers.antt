@@ -1,4 +1,4 @@
-use Rattle.std.proofs.Common.{arith, rules}
+use Rattle.std.proofs.Common.{rules}
 use Rattle.picture.proofs.Lengths.{bar_none, bar_some}
 use Rattle.picture.proofs.length.bar.Goals as goal
 

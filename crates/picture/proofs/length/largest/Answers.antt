@@ -1,4 +1,4 @@
-use Rattle.picture.proofs.Drawing.{num_is, den_is, sofar_none, sofar_more, sofar_all}
+use Rattle.picture.proofs.Drawing.{num_is, den_is, sofar_more}
 use Rattle.picture.proofs.length.largest.Goals as goal
 
 pub loop-k-preserved : goal.loop-k-preserved

@@ -1,8 +1,8 @@
 use Rattle.std.proofs.Common.{mul-le-mul_right, arith}
 use Rattle.picture.proofs.frame.Frame.run_area.Goals as goal
 
-pub overflow-sub-result : goal.overflow-sub-result
-overflow-sub-result c = omega (arith, mul-le-mul_right c.args.self.column c.requires.1.0)
+pub overflow_sub-result : goal.overflow_sub-result
+overflow_sub-result c = omega (arith, mul-le-mul_right c.args.self.column c.requires.1.0)
 
 pub returns : goal.returns
 returns c =
