@@ -8,6 +8,7 @@ use level::{length_needed, plan_night};
 use night::night::Night;
 use sheet_writer::planned::{plan_sheet, sheet_room};
 use std::alloc::{AllocError, Global};
+use std::process::ExitCode;
 use std::time::Instant;
 
 const HELP: &str = "bench NIGHT..
@@ -119,6 +120,6 @@ fn run(rt: &HostRuntime) -> Result<(), Fault> {
     Ok(())
 }
 
-fn main(rt: HostRuntime) -> Result<(), Fault> {
-    console::report(&rt, "bench", run(&rt))
+fn main(rt: HostRuntime) -> ExitCode {
+    console::status(console::report(&rt, "bench", run(&rt)))
 }

@@ -6,6 +6,7 @@ use console::words::given;
 use console::{Fault, read_input};
 use lines::UnevenLine;
 use sheet::refusal::Refusal;
+use std::process::ExitCode;
 
 const HELP: &str = "check NIGHT SHEET
 
@@ -63,6 +64,6 @@ fn run(rt: &HostRuntime) -> Result<(), Fault> {
     verdict(rt, sheet::check(&night, bytes.as_slice()))
 }
 
-fn main(rt: HostRuntime) -> Result<(), Fault> {
-    console::report(&rt, "check", run(&rt))
+fn main(rt: HostRuntime) -> ExitCode {
+    console::status(console::report(&rt, "check", run(&rt)))
 }

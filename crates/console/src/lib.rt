@@ -1,12 +1,15 @@
 // What the programs share: reading a file or standard input, writing a file whole or not at all, and the ways in which a program fails.
 #![tactic(auto)]
 
+ghost use Rattle.std.specs.Prelude.{◌≡◌, MatchResult};
+
 pub mod nights;
 pub mod words;
 
 use lines::RefusedLine;
 use std::alloc::{AllocError, AllocFailed, Global};
 use std::io::{Read, Write};
+use std::process::ExitCode;
 use std::rt::Files;
 use std::{fmt, fs, io};
 
@@ -130,5 +133,15 @@ pub fn report(rt: &HostRuntime, program: &str, r: Result<(), Fault>) -> Result<(
             Err(e)
         }
         Ok(_) => Ok(()),
+    }
+}
+
+// The status with which a program ends, once what went wrong is said: 0, or 1 for any fault.
+pub fn status(r: Result<(), Fault>) -> ExitCode
+    ensures { MatchResult r (λ _. result ≡ ExitCode.SUCCESS) (λ _. result ≡ ExitCode.FAILURE) }
+{
+    match r {
+        Ok(()) => ExitCode::SUCCESS,
+        Err(_) => ExitCode::FAILURE,
     }
 }

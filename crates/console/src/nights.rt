@@ -28,11 +28,7 @@ fn blame(rt: &HostRuntime, name: &str, e: ReadError) -> Result<Fault, io::Error>
 }
 
 // The night in a file, with the names of its tasks, of which bytes have none; a refusal, or each mistake of a text, is printed.
-pub fn named_night_from(
-    rt: &HostRuntime,
-    name: &str,
-    form: Form,
-) -> Result<TextNight, Fault> {
+pub fn named_night_from(rt: &HostRuntime, name: &str, form: Form) -> Result<TextNight, Fault> {
     let heap = rt.alloc();
     let bytes = read_input(rt, name)?;
     match form {

@@ -6,6 +6,7 @@ use console::words::{Words, given};
 use console::{Fault, read_input, write_output};
 use lines::RefusedLine;
 use std::alloc::AllocError;
+use std::process::ExitCode;
 use text::writer::{WriteError, write_text};
 
 const HELP: &str = "convert --to-bytes TEXT NIGHT
@@ -75,6 +76,6 @@ fn run(rt: &HostRuntime) -> Result<(), Fault> {
     run_with(rt, &words)
 }
 
-fn main(rt: HostRuntime) -> Result<(), Fault> {
-    console::report(&rt, "convert", run(&rt))
+fn main(rt: HostRuntime) -> ExitCode {
+    console::status(console::report(&rt, "convert", run(&rt)))
 }

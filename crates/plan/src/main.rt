@@ -12,6 +12,7 @@ use console::{Fault, refuse};
 use help::{HELP, VERSION};
 use names::rename;
 use output::{Output, make, write_files};
+use std::process::ExitCode;
 
 // Reads the night and its changes, plans it, and writes and prints what is asked for: nothing, if anything is refused.
 fn run_with(rt: &HostRuntime, words: &Words) -> Result<(), Fault> {
@@ -57,6 +58,6 @@ fn run(rt: &HostRuntime) -> Result<(), Fault> {
     run_with(rt, &words)
 }
 
-fn main(rt: HostRuntime) -> Result<(), Fault> {
-    console::report(&rt, "plan", run(&rt))
+fn main(rt: HostRuntime) -> ExitCode {
+    console::status(console::report(&rt, "plan", run(&rt)))
 }

@@ -2,7 +2,6 @@
 use crate::given::{A, B, C, D, E, F, G, Given, heavy, near, night_of, stairs};
 use fraction::Fraction;
 use level::levels::Levels;
-use level::short::Short;
 use level::{length_needed, plan_night};
 use night::night::Night;
 use std::alloc::Global;
@@ -94,49 +93,4 @@ fn nearest_levels(rt: HostRuntime) -> Result<(), Fail> {
     let dense = nearest_u64_to_f32(94_000_024) / 47.0;
     assert!(rt; dense == nearest_u64_to_f32(98_000_025) / 49.0);
     Ok(())
-}
-
-// Two groups with three flows; the plan behind its rows is as it was.
-#[test]
-fn amounts(rt: HostRuntime) -> Result<(), Fail> {
-    let night = night_of(rt.alloc(), D)?;
-    let mut plan = [7; 300];
-    let mut work = [7; 300];
-    let levels = plan_night(&night, &mut plan, &mut work)?;
-    assert_eq!(rt; length_needed(&night), 288);
-    assert!(rt; levels.count == 2 && levels.flows == 3 && levels.longest == 2);
-    assert!(rt; levels.of[0] == 0 && levels.of[1] == 1 && levels.of[2] == 1);
-    assert!(rt;
-        levels.groups[0].contains(0) && levels.groups[0].contains(1) && levels.groups[1].contains(2)
-    );
-    assert!(rt; plan[0] == 5 && plan[1] == 5 && plan[2] == 0);
-    assert!(rt; plan[97] == 0 && plan[98] == 1 && plan[193] == 0 && plan[194] == 1);
-    assert!(rt; plan[287] == 0 && plan[288] == 7);
-    Ok(())
-}
-
-#[test]
-fn refused(rt: HostRuntime) -> Result<(), Fail> {
-    let night = night_of(rt.alloc(), (1, &[(5, 0b1)]))?;
-    let mut long = [7; 96];
-    let mut short = [7; 95];
-    let plan = plan_night(&night, &mut short, &mut long);
-    assert!(rt; matches(plan, Short::Plan));
-    let work = plan_night(&night, &mut long, &mut short);
-    assert!(rt; matches(work, Short::Work));
-    assert!(rt; long[0] == 7 && short[0] == 7);
-    assert!(rt;
-        Short::Plan.number() == 5
-            && Short::Plan.place() == 0
-            && Short::Work.number() == 5
-            && Short::Work.place() == 1
-    );
-    Ok(())
-}
-
-fn matches(r: Result<Levels, Short>, e: Short) -> bool {
-    match r {
-        Ok(_) => false,
-        Err(s) => s == e,
-    }
 }

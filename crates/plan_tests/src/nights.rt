@@ -4,7 +4,7 @@ use std::alloc::{AllocError, Global};
 use std::test::Fail;
 
 // Bytes, and the number and place of their refusal; number 0 where they are a night.
-const CASES: [(&[u8], usize, usize); 46] = [
+const CASES: [(&[u8], usize, usize); 49] = [
     // bytes are missing, whatever else is wrong
     (&[], 1, 0),
     (&[1], 1, 1),
@@ -51,6 +51,21 @@ const CASES: [(&[u8], usize, usize); 46] = [
     (&[1, 2, 0, 0, 0, 0, 0, 0, 0, 0, 0, 2], 4, 6),
     (&[1, 2, 0, 0, 0, 0, 1, 0, 0, 0, 0, 2], 4, 11),
     (&[1, 2, 0, 0, 0, 0, 1, 0, 0, 0, 0, 0, 9], 4, 11),
+    (
+        &[95, 1, 0, 0, 0, 0, 0, 0, 0, 0, 0, 0, 0, 0, 0, 0, 0, 0x40],
+        0,
+        0,
+    ),
+    (
+        &[95, 1, 0, 0, 0, 0, 0, 0, 0, 0, 0, 0, 0, 0, 0, 0, 0, 0x80],
+        4,
+        6,
+    ),
+    (
+        &[96, 1, 0, 0, 0, 0, 0, 0, 0, 0, 0, 0, 0, 0, 0, 0, 0, 0x80],
+        0,
+        0,
+    ),
     // bytes that go on
     (&[1, 0, 9], 1, 2),
     (&[1, 0, 9, 9], 1, 2),
@@ -59,11 +74,7 @@ const CASES: [(&[u8], usize, usize); 46] = [
 ];
 
 // Hours and the last byte of one task's row, whose other bytes are 0; number and place.
-const LAST: [(u8, u8, usize, usize); 7] = [
-    // hour 94, 95 and 96
-    (95, 0x40, 0, 0),
-    (95, 0x80, 4, 6),
-    (96, 0x80, 0, 0),
+const LAST: [(u8, u8, usize, usize); 4] = [
     (96, 0x00, 4, 6),
     (97, 0x01, 2, 0),
     // a bad row behind bad hours
@@ -72,11 +83,9 @@ const LAST: [(u8, u8, usize, usize); 7] = [
 ];
 
 // Hours, how many tasks, the bytes of each, and the bytes behind them; number and place.
-const ALIKE: [(u8, u8, [u8; 5], &[u8], usize, usize); 9] = [
-    (1, 200, [7, 0, 0, 0, 1], &[], 0, 0),
+const ALIKE: [(u8, u8, [u8; 5], &[u8], usize, usize); 7] = [
     (1, 200, [0x40, 0x42, 0x0f, 0, 1], &[], 0, 0),
     (1, 200, [7, 0, 0, 0, 1], &[9], 1, 1002),
-    (1, 201, [7, 0, 0, 0, 1], &[], 2, 1),
     (1, 255, [7, 0, 0, 0, 1], &[], 2, 1),
     // with no hours; with units, rows and bytes that are too many
     (0, 201, [7, 0, 0, 0, 1], &[], 2, 0),
@@ -94,6 +103,15 @@ fn gets(heap: Global, bytes: &[u8], number: usize, place: usize) -> Result<bool,
         }
         Err(refusal) => Ok(refusal.number() == number && refusal.place() == place),
     }
+}
+
+// The bytes of so many tasks with hour 0, behind the two of a night of one hour.
+fn alike(heap: Global, count: u8) -> Result<Vec<u8>, AllocError> {
+    let mut bytes = vec![in heap; 1, count]?;
+    for _ in 0..count {
+        bytes.extend_from_slice(&[7, 0, 0, 0, 1])?;
+    }
+    Ok(bytes)
 }
 
 #[test]
@@ -121,7 +139,7 @@ fn last_hours(rt: HostRuntime) -> Result<(), Fail> {
 }
 
 #[test]
-fn many_tasks(rt: HostRuntime) -> Result<(), Fail> {
+fn equal_tasks(rt: HostRuntime) -> Result<(), Fail> {
     for (hours, count, task, more, number, place) in ALIKE {
         let mut bytes = vec![in rt.alloc(); hours, count]?;
         for _ in 0..count {
@@ -133,5 +151,14 @@ fn many_tasks(rt: HostRuntime) -> Result<(), Fail> {
             "{count} of {task:?}"
         );
     }
+    Ok(())
+}
+
+#[test]
+fn many_tasks(rt: HostRuntime) -> Result<(), Fail> {
+    let most = alike(rt.alloc(), 200)?;
+    assert!(rt; gets(rt.alloc(), most.as_slice(), 0, 0)?);
+    let more = alike(rt.alloc(), 201)?;
+    assert!(rt; gets(rt.alloc(), more.as_slice(), 2, 1)?);
     Ok(())
 }

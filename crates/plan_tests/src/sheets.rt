@@ -4,5 +4,6 @@ mod changed;
 mod lengths;
 mod numbers;
 mod refused;
+mod small;
 mod uneven;
 mod written;

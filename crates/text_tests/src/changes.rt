@@ -119,6 +119,13 @@ fn gone_and_back(rt: HostRuntime) -> Result<(), Fail> {
         loads(heap, &[Change::Goes(0), back])?.as_slice(),
         &[(5, 2), (5, 2), (2, 1)]
     );
+    Ok(())
+}
+
+// Two tasks that go, one that comes, and more units for it.
+#[test]
+fn gone_and_late(rt: HostRuntime) -> Result<(), Fail> {
+    let heap = rt.alloc();
     let late = Change::Comes(task(1, Hours::below(3).remove(0)));
     let row = [Change::Goes(1), Change::Goes(1), late, Change::More(1, 2)];
     assert_eq!(rt; loads(heap, &row)?.as_slice(), &[(8, 3), (8, 3), (8, 3)]);

@@ -1,0 +1,5 @@
+// Networks with known outcomes.
+#![tactic(auto)]
+
+#[cfg(test)]
+mod tests;

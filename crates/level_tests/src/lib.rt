@@ -1,0 +1,5 @@
+// Nights with known loads.
+#![tactic(auto)]
+
+#[cfg(test)]
+mod tests;
