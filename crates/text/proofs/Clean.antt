@@ -1,9 +1,8 @@
 -- A text with no mistake says a night.
-use Rattle.std.proofs.Common.{◌≡◌, ℕ, zero, suc, ◌+◌, ◌^◌, ◌<◌, ◌≤◌, Bool, true, false, cond, ◌||◌, eqb, ltb, leb, ◌⊎◌, List, [], ◌∷◌, ◌++◌, length, get_or, Some, None, Ok, Err, vec_items, Option, Result, String, sym, refl, ap, ◌∙◌, subst, inl, inr, add-zero, arith}
+use Rattle.std.proofs.Common.{◌≡◌, ℕ, zero, suc, ◌+◌, ◌<◌, ◌≤◌, true, false, cond, eqb, ltb, List, [], ◌∷◌, ◌++◌, length, get_or, Some, None, Ok, Err, vec_items, Option, Result, String, sym, refl, ap, ◌∙◌, inl, inr, add-zero, arith}
 use Rattle.std.proofs.lemmas.Bool.{cases_Bool, cases_eq, eq-eqb, ne_eqb, or_cases, or_left}
 use Rattle.std.proofs.lemmas.Bool.Decides.{nat_tests}
 use Rattle.std.specs.declared.alloc.Global.{Global}
-use Rattle.fraction.specs.Sum.{any}
 use Rattle.fraction.proofs.Sums.{any_has}
 use Rattle.night.specs.declared.task.Task.{Task}
 use Rattle.sets.specs.Hours.{has}
@@ -13,13 +12,13 @@ use Rattle.text.specs.declared.mistake.Fault.{Fault}
 use Rattle.text.specs.declared.span.Span.{Span}
 use Rattle.text.specs.Header.{header_says, hours_said}
 use Rattle.text.specs.declared.reading.Reading.{Reading}
-use Rattle.text.specs.Lines.{content, silent, next_hours, adds, many, entries, last_hours, wrong_lines, no_header, wrong_text, lines, Listed, Read}
+use Rattle.text.specs.Lines.{content, silent, many, entries, last_hours, wrong_lines, no_header, wrong_text, lines, Listed, Read}
 use Rattle.text.specs.Number.{numeral}
 use Rattle.text.specs.Piece.{pieces, words, holds}
-use Rattle.text.specs.Span.{from_to, between_dashes, spanned, lies, names, covers, wrong_span, wrong_spans, wrong_hours}
-use Rattle.text.specs.TaskLine.{last_of, colon, head_words, hour_words, units_said, wrong_units, task_units, wrong_task, Entered}
+use Rattle.text.specs.Span.{from_to, between_dashes, spanned, names, covers, wrong_span, wrong_hours}
+use Rattle.text.specs.TaskLine.{last_of, colon, head_words, hour_words, units_said, wrong_units, wrong_task, Entered}
 use Rattle.text.specs.Told.{Told}
-use Rattle.text.proofs.Going.{said_range, next_same}
+use Rattle.text.proofs.Going.{said_range}
 
 -- a list of two parts that is empty
 no_first : {X : Type 0} (xs ys : List X) → xs ++ ys ≡ [] → xs ≡ []

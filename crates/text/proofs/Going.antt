@@ -1,18 +1,18 @@
 -- A reader of a night goes from line to line.
-use Rattle.std.proofs.Common.{◌≡◌, ℕ, suc, ◌+◌, ◌<◌, ◌≤◌, Bool, true, false, cond, eqb, leb, ◌⊎◌, List, [], ◌∷◌, ◌++◌, length, get_or, Some, None, vec_items, codes, Option, String, sym, refl, ap, ◌∙◌, subst, inl, inr, arith, length-append}
+use Rattle.std.proofs.Common.{◌≡◌, ℕ, suc, ◌+◌, ◌<◌, ◌≤◌, true, false, eqb, leb, ◌⊎◌, List, [], ◌∷◌, ◌++◌, length, Some, None, vec_items, codes, Option, String, sym, refl, ap, ◌∙◌, inl, inr, arith, length-append}
 use Rattle.std.proofs.lemmas.List.{append_assoc, append-nil, length_push, get_or_push, get_or_append_left}
-use Rattle.std.proofs.lemmas.Bool.{cases_Bool, cases_eq, cases_lt, eq-eqb, ne_eqb, eqb-true}
+use Rattle.std.proofs.lemmas.Bool.{cases_Bool, cases_eq, cases_lt, eq-eqb, ne_eqb}
 use Rattle.std.proofs.lemmas.Bool.Decides.{nat_tests}
 use Rattle.std.specs.Str.{bytes_eq}
 use Rattle.std.specs.declared.alloc.Global.{Global}
 use Rattle.night.specs.declared.task.Task.{Task}
 use Rattle.text.specs.declared.reading.Reading.{Reading}
 use Rattle.text.specs.Header.{some_hours, header_says, hours_said}
-use Rattle.text.specs.Lines.{content, none, silent, next_hours, adds, wrong_line, entries, last_hours, wrong_lines, no_header, wrong_text, lines, Listed, Added, Went, Read}
+use Rattle.text.specs.Lines.{content, none, silent, next_hours, adds, wrong_line, entries, last_hours, wrong_lines, no_header, lines, Listed, Added, Went, Read}
 use Rattle.text.specs.Number.{numeral}
 use Rattle.text.specs.Piece.{words}
 use Rattle.text.specs.TaskLine.{Entered}
-use Rattle.text.specs.Told.{Told, told}
+use Rattle.text.specs.Told.{told}
 use Rattle.text.proofs.Tales.{told_on}
 
 -- a task more in the list

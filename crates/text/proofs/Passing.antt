@@ -1,14 +1,14 @@
 -- A reader of changes goes from line to line.
-use Rattle.std.proofs.Common.{◌≡◌, ℕ, suc, ◌+◌, ◌<◌, true, false, cond, List, [], ◌∷◌, ◌++◌, length, get_or, Some, None, Option, sym, refl, ap, ◌∙◌, inl, inr, arith}
+use Rattle.std.proofs.Common.{◌≡◌, ℕ, suc, ◌+◌, true, false, List, [], ◌∷◌, ◌++◌, length, Some, None, Option, sym, refl, ap, ◌∙◌, inl, inr, arith}
 use Rattle.std.proofs.lemmas.List.{append_assoc, append-nil, length_push, get_or_push, get_or_append_left}
 use Rattle.std.proofs.lemmas.Bool.{cases_lt}
 use Rattle.change.specs.declared.kinds.Change.{Change}
 use Rattle.change.specs.declared.kinds.Change.TheVariants as change
 use Rattle.text.specs.declared.change_line.Said.{Said}
-use Rattle.text.specs.declared.change_line.Said.TheVariants.{Comes, Goes, More, Unclear}
+use Rattle.text.specs.declared.change_line.Said.TheVariants.{Unclear}
 use Rattle.text.specs.ChangeLine.{change_said, wrong_change, Means, SaysIt}
 use Rattle.text.specs.Changes.{if_clear, change_in, change_lines, wrong_change_line, wrong_changes, Meant, Passed}
-use Rattle.text.specs.Lines.{content, none, silent, lines}
+use Rattle.text.specs.Lines.{content, none, silent}
 use Rattle.text.specs.Piece.{words}
 use Rattle.text.specs.Told.{Told}
 use Rattle.text.proofs.Tales.{told_on}

@@ -1,10 +1,10 @@
 -- Laws of mistakes.
-use Rattle.std.proofs.Common.{◌≡◌, ℕ, Bool, true, false, ◌||◌, List, [], ◌∷◌, ◌++◌, map, Ok, Err, vec_items, Vec, sym, refl, ap, ◌∙◌}
+use Rattle.std.proofs.Common.{◌≡◌, ℕ, List, [], ◌∷◌, ◌++◌, map, Err, vec_items, Vec, sym, ap, ◌∙◌}
 use Rattle.std.proofs.lemmas.List.{map_push, append_assoc}
 use Rattle.std.specs.declared.alloc.Global.{Global}
 use Rattle.text.specs.declared.mistake.Fault.{Fault}
 use Rattle.text.specs.declared.mistake.Mistake.{Mistake}
-use Rattle.text.specs.Span.{spanned, names, covers, wrong_span, wrong_spans}
+use Rattle.text.specs.Span.{spanned, covers, wrong_spans}
 use Rattle.text.specs.Told.{Told, tell, told}
 
 -- a mistake more

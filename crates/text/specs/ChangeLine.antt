@@ -1,5 +1,5 @@
 -- Lines that say a change. Assumes nothing: these are definitions.
-use Rattle.std.specs.Prelude.{◌≡◌, ℕ, suc, ◌<◌, cond, List, [], ◌∷◌, ◌++◌, length, get_or, Some, None, codes, Option}
+use Rattle.std.specs.Prelude.{◌≡◌, ℕ, cond, List, [], ◌∷◌, Some, None, codes, Option}
 use Rattle.std.specs.Str.{bytes_eq}
 use Rattle.night.specs.declared.task.Task.{Task}
 use Rattle.sets.specs.Hours.{has}
@@ -8,9 +8,7 @@ use Rattle.change.specs.declared.kinds.Change.TheVariants as change
 use Rattle.text.specs.declared.change_line.Said.{Said}
 use Rattle.text.specs.declared.change_line.Said.TheVariants.{Comes, Goes, More, Unclear}
 use Rattle.text.specs.declared.mistake.Fault.TheVariants.{NotChange}
-use Rattle.text.specs.Lines.{content, silent}
 use Rattle.text.specs.Number.{numeral}
-use Rattle.text.specs.Piece.{words}
 use Rattle.text.specs.Span.{covers}
 use Rattle.text.specs.TaskLine.{hour_words, task_units, wrong_task}
 use Rattle.text.specs.Told.{Told}

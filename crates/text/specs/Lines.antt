@@ -1,5 +1,5 @@
 -- A night, line by line. Assumes nothing: these are definitions.
-use Rattle.std.specs.Prelude.{◌≡◌, ℕ, suc, ◌+◌, ◌<◌, Bool, true, false, cond, not, ◌&&◌, List, [], ◌∷◌, ◌++◌, length, vec_items, String, ◌==◌, nat_eq, slice_index_or}
+use Rattle.std.specs.Prelude.{◌≡◌, ℕ, suc, ◌+◌, ◌<◌, Bool, true, false, cond, List, [], ◌∷◌, ◌++◌, length, vec_items, String, ◌==◌, nat_eq, slice_index_or}
 use Rattle.std.specs.declared.alloc.Global.{Global}
 use Rattle.night.specs.declared.task.Task.{Task}
 use Rattle.text.specs.declared.mistake.Fault.TheVariants.{Header, ManyTasks}

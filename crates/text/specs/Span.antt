@@ -1,5 +1,5 @@
 -- Hours as people write them. Assumes nothing: these are definitions.
-use Rattle.std.specs.Prelude.{ℕ, Bool, true, false, cond, ◌&&◌, ◌||◌, List, [], ◌∷◌, ◌++◌, Some, None, Ok, Err, Option, Result, nat_eq, nat_le, nat_lt}
+use Rattle.std.specs.Prelude.{ℕ, Bool, false, cond, ◌&&◌, ◌||◌, List, [], ◌∷◌, ◌++◌, Some, None, Ok, Err, Option, Result, nat_eq, nat_le, nat_lt}
 use Rattle.text.specs.declared.mistake.Fault.{Fault}
 use Rattle.text.specs.declared.mistake.Fault.TheVariants.{NotHour, Backward, Late, NoHour}
 use Rattle.text.specs.declared.span.Span.{Span}

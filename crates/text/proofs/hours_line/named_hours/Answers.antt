@@ -1,4 +1,4 @@
-use Rattle.std.proofs.Common.{◌≡◌, ◌||◌, [], ◌∷◌, ◌++◌, sym, ap, ◌∙◌}
+use Rattle.std.proofs.Common.{◌||◌, [], ◌∷◌, ◌++◌, sym, ap, ◌∙◌}
 use Rattle.sets.specs.Hours.{has}
 use Rattle.text.specs.Piece.{words}
 use Rattle.text.specs.Span.{covers, wrong_spans}
@@ -20,5 +20,5 @@ loop-word-preserved c =
           ∙ c.loop-word.invariant.0 k,
       told_on (told c.loop-word.mistakes) (told c.blame.new.mistakes) _ ((i, f, w) ∷ []) (wrong_spans n i ws)
           (sym (ap (λ l. told c.loop-word.mistakes ++ l) (ap (wrong_spans n i) first ∙ wrong_word n i w ws f wrong)) ∙ c.loop-word.invariant.1)
-          c.in-ok-blame.ensures,
+          c.in_ok-blame-in-Err.ensures,
     )

@@ -1,4 +1,4 @@
-use Rattle.std.proofs.Common.{◌≡◌, eqb, refl, subst, add-one, rules}
+use Rattle.std.proofs.Common.{eqb, refl, subst, add-one, rules}
 use Rattle.text.specs.Lines.{lines}
 use Rattle.text.proofs.Going.{Sofar, next_line, last_line}
 use Rattle.text.proofs.Pieces.{pieces_few}

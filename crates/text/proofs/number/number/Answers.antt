@@ -1,4 +1,4 @@
-use Rattle.std.proofs.Common.{arith, rules}
+use Rattle.std.proofs.Common.{rules}
 use Rattle.text.proofs.Numbers.{digit_none, digit_more, digit_all}
 use Rattle.text.proofs.number.number.Goals as goal
 

@@ -1,5 +1,5 @@
-use Rattle.std.proofs.Common.{sym, ◌∙◌, arith}
-use Rattle.text.proofs.Spans.{late, within, backward}
+use Rattle.std.proofs.Common.{sym, arith}
+use Rattle.text.proofs.Spans.{within}
 use Rattle.text.proofs.span.read_span.Goals as goal
 
 pub returns : goal.returns

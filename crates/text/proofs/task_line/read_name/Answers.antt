@@ -1,4 +1,4 @@
-use Rattle.std.proofs.Common.{◌≡◌, sym, ap, ◌∙◌}
+use Rattle.std.proofs.Common.{ap, ◌∙◌}
 use Rattle.text.specs.Piece.{words}
 use Rattle.text.specs.TaskLine.{title}
 use Rattle.text.proofs.Entries.{title_more}

@@ -1,4 +1,4 @@
-use Rattle.std.proofs.Common.{◌≡◌, ap, ◌∙◌}
+use Rattle.std.proofs.Common.{ap, ◌∙◌}
 use Rattle.text.specs.Number.{numeral}
 use Rattle.text.specs.TaskLine.{units_said}
 use Rattle.text.specs.Told.{told}
@@ -7,10 +7,13 @@ use Rattle.text.proofs.task_line.read_task.Goals as goal
 
 pub returns : goal.returns
 returns c =
-    let p = c.in-Some.ensures in (
-      simp c.task_of-task-2.ensures.same (entered p _ _ _ _ (c.in_ok-units.ensures.0 ∙ ap (λ w. units_said (numeral w)) c.last_word.ensures)
-          c.task_of-task-2.ensures.word c.in_ok-hours.ensures.0 c.in_ok-name.ensures),
-      wrong_entered p _ _ (told c.args.mistakes.now) (told c.read_units.new.mistakes)
+    let p = c.in-Some.ensures in
+    record {
+      ok =
+          simp c.task_of-task-2.ensures.same (entered p _ _ _ _ (c.in_ok-units.ensures.ok ∙ ap (λ w. units_said (numeral w)) c.last_word.ensures)
+          c.task_of-task-2.ensures.word c.in_ok-hours.ensures.ok c.in_ok-name.ensures);
+      ok_2 =
+          wrong_entered p _ _ (told c.args.mistakes.now) (told c.read_units.new.mistakes)
           (told c.read_hours.new.mistakes) c.last_word.result.now c.last_word.ensures
-          c.in_ok-units.ensures.1 c.in_ok-hours.ensures.1,
-    )
+          c.in_ok-units.ensures.ok_2 c.in_ok-hours.ensures.ok_2;
+    }

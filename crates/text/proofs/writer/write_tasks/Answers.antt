@@ -1,4 +1,4 @@
-use Rattle.std.proofs.Common.{◌≡◌, ◌++◌, get_or, string_bytes, sym, ap, ◌∙◌, arith, below_more}
+use Rattle.std.proofs.Common.{◌++◌, get_or, string_bytes, sym, ap, ◌∙◌, arith, below_more}
 use Rattle.night.specs.Task.{blank_task}
 use Rattle.text.specs.Written.{task_text, plain}
 use Rattle.text.proofs.Writing.{lines_none, lines_more}
