@@ -1,5 +1,5 @@
 -- The words of a command line, sorted by kind. Assumes nothing: these are definitions.
-use Rattle.std.specs.Prelude.{◌≡◌, ℕ, ◌+◌, ◌*◌, ◌<◌, ◌≢◌, List, length, vec_items, vec_len, string_bytes, Vec, String}
+use Rattle.std.specs.Prelude.{◌≡◌, ℕ, ◌+◌, ◌*◌, ◌<◌, List, length, vec_len, string_bytes, String}
 use Rattle.std.specs.List.{HoldsAt}
 use Rattle.std.specs.declared.alloc.Global.{Global}
 use Rattle.console.specs.declared.words.Words.{Words}

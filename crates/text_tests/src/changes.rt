@@ -52,17 +52,23 @@ fn outcome(heap: Global, tasks: usize, row: &[Change]) -> Result<Vec<u32>, Fail>
 fn rows_taken(rt: HostRuntime) -> Result<(), Fail> {
     let heap = rt.alloc();
     let comes = Change::Comes(task(7, Hours::only(1)));
-    assert_eq!(rt; outcome(heap, 3, &[comes])?.as_slice(), &[5, 1, 1, 7]);
+    assert_eq!(rt;
+        outcome(heap, 3, &[comes])?.as_slice(),
+        [5, 1, 1, 7].as_slice()
+    );
     assert_eq!(rt;
         outcome(heap, 3, &[Change::Goes(0), Change::More(0, 4)])?.as_slice(),
-        &[5, 1]
+        [5, 1].as_slice()
     );
     assert_eq!(rt;
         outcome(heap, 1, &[Change::More(0, 999_995)])?.as_slice(),
-        &[1_000_000]
+        [1_000_000].as_slice()
     );
     assert_eq!(rt; outcome(heap, 200, &[Change::Goes(199), comes])?.len(), 200);
-    assert_eq!(rt; outcome(heap, 1, &[Change::Goes(0)])?.as_slice(), &[]);
+    assert_eq!(rt;
+        outcome(heap, 1, &[Change::Goes(0)])?.as_slice(),
+        [].as_slice()
+    );
     Ok(())
 }
 
@@ -72,23 +78,29 @@ fn rows_refused(rt: HostRuntime) -> Result<(), Fail> {
     let comes = Change::Comes(task(7, Hours::only(1)));
     let late = Change::Comes(task(7, Hours::only(3)));
     let never = Change::Comes(task(7, Hours::none()));
-    assert_eq!(rt; outcome(heap, 200, &[comes])?.as_slice(), &[999, 0]);
-    assert_eq!(rt; outcome(heap, 3, &[comes, late])?.as_slice(), &[999, 1]);
+    assert_eq!(rt;
+        outcome(heap, 200, &[comes])?.as_slice(),
+        [999, 0].as_slice()
+    );
+    assert_eq!(rt;
+        outcome(heap, 3, &[comes, late])?.as_slice(),
+        [999, 1].as_slice()
+    );
     assert_eq!(rt;
         outcome(heap, 3, &[comes, comes, never])?.as_slice(),
-        &[999, 2]
+        [999, 2].as_slice()
     );
     assert_eq!(rt;
         outcome(heap, 1, &[Change::Goes(0), Change::Goes(0)])?.as_slice(),
-        &[999, 1]
+        [999, 1].as_slice()
     );
     assert_eq!(rt;
         outcome(heap, 1, &[Change::More(0, 999_996)])?.as_slice(),
-        &[999, 0]
+        [999, 0].as_slice()
     );
     assert_eq!(rt;
         outcome(heap, 1, &[Change::More(1, 1)])?.as_slice(),
-        &[999, 0]
+        [999, 0].as_slice()
     );
     Ok(())
 }
@@ -110,14 +122,17 @@ fn loads(heap: Global, row: &[Change]) -> Result<Vec<(u64, u64)>, Fail> {
 fn gone_and_back(rt: HostRuntime) -> Result<(), Fail> {
     let heap = rt.alloc();
     let back = Change::Comes(task(5, Hours::below(2)));
-    assert_eq!(rt; loads(heap, &[])?.as_slice(), &[(5, 2), (5, 2), (2, 1)]);
+    assert_eq!(rt;
+        loads(heap, &[])?.as_slice(),
+        [(5, 2), (5, 2), (2, 1)].as_slice()
+    );
     assert_eq!(rt;
         loads(heap, &[Change::Goes(0)])?.as_slice(),
-        &[(0, 1), (0, 1), (2, 1)]
+        [(0, 1), (0, 1), (2, 1)].as_slice()
     );
     assert_eq!(rt;
         loads(heap, &[Change::Goes(0), back])?.as_slice(),
-        &[(5, 2), (5, 2), (2, 1)]
+        [(5, 2), (5, 2), (2, 1)].as_slice()
     );
     Ok(())
 }
@@ -128,6 +143,9 @@ fn gone_and_late(rt: HostRuntime) -> Result<(), Fail> {
     let heap = rt.alloc();
     let late = Change::Comes(task(1, Hours::below(3).remove(0)));
     let row = [Change::Goes(1), Change::Goes(1), late, Change::More(1, 2)];
-    assert_eq!(rt; loads(heap, &row)?.as_slice(), &[(8, 3), (8, 3), (8, 3)]);
+    assert_eq!(rt;
+        loads(heap, &row)?.as_slice(),
+        [(8, 3), (8, 3), (8, 3)].as_slice()
+    );
     Ok(())
 }
