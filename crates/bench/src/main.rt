@@ -79,7 +79,7 @@ impl Lane {
         for _ in 0..SAMPLES {
             all.push(self.sample(rt, call)?)?;
         }
-        all.sort();
+        all.sort()?;
         Ok(all.get(all.len() / 2).copied().unwrap_or(0))
     }
 }
