@@ -1,5 +1,5 @@
 -- A night after a row of changes that can all be made.
-use Rattle.std.proofs.Common.{◌≡◌, ℕ, ◌<◌, List, sym, ap, ◌∙◌, subst}
+use Rattle.std.proofs.Common.{◌≡◌, ℕ, List, sym, ap, ◌∙◌, subst}
 use Rattle.night.specs.declared.night.Night.{Night}
 use Rattle.night.specs.declared.task.Task.{Task}
 use Rattle.night.specs.Night.{hours_of, tasks_of}
@@ -10,7 +10,7 @@ use Rattle.even.specs.More.{Within}
 use Rattle.even.proofs.Any.{more_work}
 use Rattle.change.specs.declared.kinds.Change.{Change}
 use Rattle.change.specs.Row.{AllCan, after_row}
-use Rattle.change.specs.Growth.{OnlyAdds, OnlyTakes, NoHeavier}
+use Rattle.change.specs.Growth.{NoHeavier}
 use Rattle.change.specs.Changed.{Changed}
 use Rattle.change.proofs.Growth.{row_adds, row_takes}
 use Rattle.change.proofs.Soundness.{row_sound}

@@ -7,7 +7,6 @@ use Rattle.night.specs.declared.night.Night.{Night}
 use Rattle.sheet_writer.specs.declared.planned.Planned.{Planned}
 use Rattle.sheet_writer.specs.Planned.{Sheeted}
 use Rattle.change.specs.declared.kinds.Change.{Change}
-use Rattle.change.specs.declared.evening.Evening.{Evening}
 use Rattle.change.specs.Changed.{Changed}
 use Rattle.change.specs.Evening.{Prepared}
 

@@ -1,6 +1,6 @@
 -- A change that adds work keeps the tasks there were, and one that takes work away has no others.
-use Rattle.std.proofs.Common.{◌≡◌, ℕ, suc, ◌+◌, ◌<◌, ◌≤◌, Bool, true, false, cond, ltb, List, [], ◌∷◌, ◌++◌, length, get_or, take, set, sym, refl, ap, ◌∙◌, subst, inl, inr, add-one, arith, length-append, length-set}
-use Rattle.std.specs.List.{remove, AllByRecursion as All}
+use Rattle.std.proofs.Common.{◌≡◌, ℕ, suc, ◌+◌, ◌<◌, cond, List, [], ◌∷◌, length, get_or, sym, refl, ap, ◌∙◌, inl, inr, add-one, arith, length-append, length-set}
+use Rattle.std.specs.List.{remove}
 use Rattle.std.proofs.lemmas.List.Edits.{length-remove, get_or-remove_below, get_or-remove_above}
 use Rattle.std.proofs.lemmas.List.{get_or_append_left, get_or-set_same, get_or-set_other}
 use Rattle.std.proofs.lemmas.Bool.{cases_eq, cases_lt, cases_order, lt-ltb, le-ltb}
@@ -12,7 +12,7 @@ use Rattle.even.specs.DayOf.{day}
 use Rattle.even.specs.More.{Within, skip}
 use Rattle.change.specs.declared.kinds.Change.{Change}
 use Rattle.change.specs.declared.kinds.Change.TheVariants.{Comes, Goes, More}
-use Rattle.change.specs.Row.{Possible, Can, AllCan, after, after_row}
+use Rattle.change.specs.Row.{Possible, AllCan, after, after_row}
 use Rattle.change.specs.Growth.{Adds, Takes, OnlyAdds, OnlyTakes}
 
 -- no task is lost on the way over a day between

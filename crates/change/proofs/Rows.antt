@@ -6,7 +6,7 @@ use Rattle.std.proofs.lemmas.Bool.{cases_eq}
 use Rattle.night.specs.declared.task.Task.{Task}
 use Rattle.change.specs.declared.kinds.Change.{Change}
 use Rattle.change.specs.declared.kinds.Change.TheVariants.{Goes}
-use Rattle.change.specs.Row.{Possible, Tried, Can, AllCan, FirstCannot, Made, after, after_row}
+use Rattle.change.specs.Row.{Tried, AllCan, FirstCannot, Made, after, after_row}
 
 module _ {n : ℕ} {ts us : List Task} {cs : List Change} {i : ℕ} (m : Made n ts cs i us) (l : i < length cs) (d : Change) where
   -- the change whose turn it is, at any default

@@ -1,6 +1,6 @@
 -- Every day has an even plan, and in parts of any size a plan that no moves make more even. Assumes nothing: these are definitions.
 use Rattle.std.specs.Prelude.{◌≡◌, ℕ, ◌<◌, ◌≤◌, Bool, true}
-use Rattle.even.specs.Day.{Day, Plan, Even, load}
+use Rattle.even.specs.Day.{Day, load}
 
 -- each task may be done in some hour
 abbrev pub Doable : Day → Type 0

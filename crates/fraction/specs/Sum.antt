@@ -1,5 +1,5 @@
 -- Finite sums, and sums and sizes of the part that a test picks out. Assumes nothing: these are definitions.
-use Rattle.std.specs.Prelude.{ℕ, zero, suc, ◌+◌, Bool, true, false, cond, not, ◌&&◌, ◌||◌}
+use Rattle.std.specs.Prelude.{ℕ, zero, suc, ◌+◌, Bool, false, cond, not, ◌&&◌, ◌||◌}
 
 -- f 0 + f 1 + … + f (n - 1)
 unfoldable pub sum : ℕ → (ℕ → ℕ) → ℕ

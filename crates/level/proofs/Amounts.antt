@@ -1,10 +1,10 @@
 -- The amounts of the groups found so far, and the search from its start to its end.
-use Rattle.std.proofs.Common.{◌≡◌, ℕ, zero, suc, ◌+◌, ◌*◌, ◌<◌, ◌≤◌, Bool, true, false, cond, not, ◌&&◌, ◌||◌, eqb, ltb, leb, ◌⊎◌, sym, refl, ap, ◌∙◌, inl, inr, arith}
+use Rattle.std.proofs.Common.{◌≡◌, ℕ, suc, ◌*◌, ◌<◌, ◌≤◌, Bool, true, false, cond, eqb, sym, ◌∙◌, inl, inr, arith}
 use Rattle.std.proofs.lemmas.Bool.Decides.{nat_tests}
-use Rattle.std.proofs.lemmas.Bool.{cases_Bool, cases_eq, cases_lt, eq-eqb, ne_eqb}
-use Rattle.fraction.specs.Sum.{sum, part, size, any, both, without}
-use Rattle.fraction.proofs.Sums.{sum_same, sum_tail, sum_at, part_mono, any_some, any_has, any_none}
-use Rattle.flow.specs.Flow.{row, column}
+use Rattle.std.proofs.lemmas.Bool.{cases_eq, cases_lt, eq-eqb, ne_eqb}
+use Rattle.fraction.specs.Sum.{sum, part, any, both}
+use Rattle.fraction.proofs.Sums.{sum_same, sum_tail, part_mono, any_some, any_has}
+use Rattle.flow.specs.Flow.{row}
 use Rattle.even.specs.Day.{Day}
 use Rattle.even.specs.Grouped.{Grouped}
 use Rattle.level.specs.Cut.{Fits}

@@ -1,5 +1,5 @@
 -- A test of some number below another, one number further.
-use Rattle.std.proofs.Common.{◌≡◌, ℕ, ◌+◌, Bool, true, false, ◌||◌, refl, arith}
+use Rattle.std.proofs.Common.{◌≡◌, ℕ, ◌+◌, Bool, false, ◌||◌, refl, arith}
 use Rattle.fraction.specs.Sum.{any}
 
 pub any_zero : (p : ℕ → Bool) → any 0 p ≡ false

@@ -1,16 +1,14 @@
 -- The state before the first flow.
-use Rattle.std.proofs.Common.{◌≡◌, ℕ, suc, ◌+◌, ◌<◌, ◌≤◌, Bool, true, false, cond, ◌&&◌, eqb, ltb, ◌⊎◌, List, length, get_or, sym, refl, ap, ◌∙◌, inl, inr, arith}
+use Rattle.std.proofs.Common.{◌≡◌, ℕ, ◌<◌, ◌≤◌, cond, List, length, get_or, refl, ◌∙◌, arith}
 use Rattle.std.proofs.lemmas.Bool.Decides.{nat_tests}
-use Rattle.std.proofs.lemmas.Bool.{cases_eq, cases_lt, cases_Bool}
 use Rattle.fraction.specs.Sum.{any}
-use Rattle.fraction.proofs.Sums.{any_some, any_hasn't}
+use Rattle.fraction.proofs.Sums.{any_hasn't}
 use Rattle.night.specs.declared.task.Task.{Task}
 use Rattle.fraction.specs.declared.exact.Fraction.{Fraction}
 use Rattle.sets.specs.declared.hours.Hours.{Hours}
 use Rattle.sets.specs.Hours.{has, blank}
-use Rattle.night.specs.Task.{units, may}
+use Rattle.night.specs.Task.{may}
 use Rattle.level.specs.Parts.{label, num, den, Ready, State}
-use Rattle.level.specs.Stack.{Stack, Amounts}
 use Rattle.level.proofs.Amounts.{start, start_none, amounts_none}
 
 module _

@@ -1,12 +1,12 @@
 -- The cut of a flow that doesn't fit splits a part into a denser and a less dense one; a flow that fits makes it a group.
-use Rattle.std.proofs.Common.{◌≡◌, ℕ, zero, suc, ◌+◌, ◌*◌, ◌<◌, ◌≤◌, Bool, true, false, cond, not, ◌&&◌, ◌||◌, ◌⊎◌, sym, refl, ap, ◌∙◌, inl, inr, add-mul, arith}
-use Rattle.std.proofs.lemmas.Bool.{cases_Bool, cases_eq, cases_lt}
-use Rattle.fraction.specs.Sum.{sum, part, size, any, both, either, without}
-use Rattle.fraction.proofs.Sums.{sum_same, sum_zero, sum_swap, sum_tight, sum_is_zero, sum_at, sum_le, sum_lt, sum_less, sum_some, part_le, part_split, part_swap, part_same_test, part_same_on, part_le_on, part_const, part_mul, any_some, any_none}
-use Rattle.flow.specs.Flow.{row, column, meets, Flow, Whole, Roomy, Closed, Reaches, Largest}
+use Rattle.std.proofs.Common.{◌≡◌, ℕ, ◌*◌, ◌<◌, ◌≤◌, Bool, true, false, cond, not, sym, ap, ◌∙◌, inl, inr, add-mul, arith}
+use Rattle.std.proofs.lemmas.Bool.{cases_Bool, cases_eq}
+use Rattle.fraction.specs.Sum.{part, size, both, either, without}
+use Rattle.fraction.proofs.Sums.{sum_same, sum_zero, sum_tight, sum_at, sum_le, sum_lt, sum_less, sum_some, part_le, part_split, part_swap, part_same_test, part_same_on, part_le_on, part_const, part_mul, any_some, any_none}
+use Rattle.flow.specs.Flow.{row, column, Flow}
 use Rattle.flow.proofs.Cuts.{fills, strict}
-use Rattle.level.specs.Bounds.{Shut, Upper, Lower}
-use Rattle.level.specs.Cut.{supply, bears, Levels, open_to, Splits, Fits}
+use Rattle.level.specs.Bounds.{Upper, Lower}
+use Rattle.level.specs.Cut.{supply, bears, open_to, Splits, Fits}
 
 -- what tasks of q do lies in hours of e, so their rows add up to at most the columns of e
 landed_le :

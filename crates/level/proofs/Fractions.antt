@@ -1,5 +1,5 @@
 -- Levels compared by cross products: w units over h hours are p / q, bounds are a / b and c / d.
-use Rattle.std.proofs.Common.{◌≡◌, ℕ, ◌*◌, ◌<◌, ◌≤◌, ◌⊎◌, ap, inl, inr, mul-le-mul_right, mul-lt-mul_of_pos_right, arith}
+use Rattle.std.proofs.Common.{◌≡◌, ℕ, ◌*◌, ◌<◌, ◌≤◌, ap, inl, inr, mul-le-mul_right, mul-lt-mul_of_pos_right, arith}
 use Rattle.std.proofs.lemmas.Bool.{cases_lt}
 
 -- a part that weighs less than a / b for each hour has a level below it

@@ -1,10 +1,10 @@
 -- Members of a set, gathered in rising order: member j stands at position size j p, the number of members before it.
 -- A flow of the members by position is a flow of all tasks.
-use Rattle.std.proofs.Common.{◌≡◌, ℕ, zero, suc, ◌+◌, ◌*◌, ◌<◌, ◌≤◌, Bool, true, false, cond, not, ◌&&◌, ◌||◌, ◌⊎◌, List, length, get_or, set, sym, refl, ap, ◌∙◌, inl, inr, arith}
+use Rattle.std.proofs.Common.{◌≡◌, ℕ, zero, suc, ◌+◌, ◌<◌, Bool, true, false, cond, List, length, get_or, set, sym, refl, ap, ◌∙◌, inl, inr, arith}
 use Rattle.std.proofs.lemmas.List.{get_or-set_same, get_or-set_other}
-use Rattle.std.proofs.lemmas.Bool.{cases_Bool, cases_eq, cases_lt, both_ways}
-use Rattle.fraction.specs.Sum.{sum, part, size, any, both}
-use Rattle.fraction.proofs.Sums.{sum_same, sum_zero, sum_step, any_has, any_some, any_hasn't, any_none}
+use Rattle.std.proofs.lemmas.Bool.{cases_Bool, cases_eq, cases_lt}
+use Rattle.fraction.specs.Sum.{sum, size, both}
+use Rattle.fraction.proofs.Sums.{sum_zero, sum_step, any_has, any_some}
 use Rattle.flow.specs.Flow.{row, column, meets, Flow, Roomy, Closed, Reaches, Largest, Whole}
 use Rattle.flow.proofs.Cuts.{largest}
 use Rattle.level.specs.Gathered.{scattered, Gathered}

@@ -1,12 +1,12 @@
 -- From a flow of the tasks gathered to a flow of the part.
-use Rattle.std.proofs.Common.{◌≡◌, ℕ, ◌+◌, ◌*◌, ◌<◌, ◌≤◌, Bool, true, false, cond, List, length, get_or, take, replicate, Some, Option, sym, refl, ap, ◌∙◌, subst, MatchOption}
+use Rattle.std.proofs.Common.{◌≡◌, ℕ, ◌*◌, ◌≤◌, Bool, true, false, cond, List, length, get_or, take, replicate, Some, Option, ap, ◌∙◌, subst, MatchOption}
 use Rattle.std.proofs.lemmas.List.{get_or-take, get_or-replicate, length-take-le}
 use Rattle.fraction.specs.declared.exact.Fraction.{Fraction}
 use Rattle.fraction.specs.Sum.{size}
 use Rattle.sets.specs.declared.hours.Hours.{Hours}
 use Rattle.night.specs.declared.task.Task.{Task}
 use Rattle.sets.specs.Hours.{has, blank}
-use Rattle.night.specs.Task.{blank_task, units, may}
+use Rattle.night.specs.Task.{units, may}
 use Rattle.flow.specs.Flow.{Flow, Largest, row}
 use Rattle.flow.specs.Flow as F
 use Rattle.flow.specs.declared.net.Net.{Net}
@@ -15,8 +15,8 @@ use Rattle.flow.specs.declared.net.Filled.TheVariants.{Whole, Cut}
 use Rattle.flow.specs.Lent.{permits, within, flow, fitting}
 use Rattle.flow.specs.Outcome.{Outcome}
 use Rattle.level.specs.Crew.{Manned}
-use Rattle.level.specs.Cut.{bears, Levels, Splits, Fits}
-use Rattle.level.specs.Gathered.{scattered, Gathered}
+use Rattle.level.specs.Cut.{bears, Levels}
+use Rattle.level.specs.Gathered.{Gathered}
 use Rattle.level.specs.Ship.{Shipped}
 use Rattle.level.proofs.Gather.{gather_below, gathered_flow, gathered_whole, gathered_largest, gathered_short}
 

@@ -1,5 +1,5 @@
 -- From the last state to what the call promises.
-use Rattle.std.proofs.Common.{◌≡◌, ℕ, zero, suc, ◌+◌, ◌*◌, ◌<◌, ◌≤◌, Bool, true, false, ◌&&◌, eqb, ltb, ◌⊎◌, List, length, get_or, sym, refl, ap, ◌∙◌, subst, inl, inr, zero-mul, arith}
+use Rattle.std.proofs.Common.{◌≡◌, ℕ, ◌*◌, ◌<◌, ◌≤◌, true, false, ◌&&◌, eqb, ltb, List, length, get_or, sym, refl, ◌∙◌, subst, inl, inr, zero-mul, arith}
 use Rattle.std.proofs.lemmas.Bool.{cases_lt, cases_Bool, eq-eqb, ne_eqb, lt-ltb, le-ltb}
 use Rattle.std.proofs.lemmas.Bool.Decides.{nat_tests}
 use Rattle.fraction.specs.declared.exact.Fraction.{Fraction}
@@ -9,7 +9,7 @@ use Rattle.night.specs.declared.night.Night.{Night}
 use Rattle.night.specs.declared.task.Task.{Task}
 use Rattle.sets.specs.Hours.{has, blank}
 use Rattle.night.specs.Night.{hours_of, tasks_of}
-use Rattle.night.specs.Task.{blank_task, units, may}
+use Rattle.night.specs.Task.{blank_task, may}
 use Rattle.night.proofs.Rows.{has_within}
 use Rattle.even.specs.Day.{Day, load}
 use Rattle.even.specs.DayOf.{day_of}
@@ -19,10 +19,9 @@ use Rattle.even.proofs.Any.{most_even, lowest_peak, cheapest}
 use Rattle.even.proofs.GroupedEven.{grouped_plan, grouped_even, grouped_load, grouped_idle}
 use Rattle.even.proofs.GroupedDensest.{densest_first}
 use Rattle.level.specs.declared.parts.Parts.{Parts}
-use Rattle.level.specs.Levels.{needed, hour_group, shares, Solved}
-use Rattle.level.specs.Load.{first, group_at, level_at, Same}
-use Rattle.level.specs.Parts.{nought, num, den, label, amount, Ready, State, Held}
-use Rattle.level.specs.Stack.{is, Stack}
+use Rattle.level.specs.Levels.{needed, Solved}
+use Rattle.level.specs.Load.{group_at, level_at, Same}
+use Rattle.level.specs.Parts.{nought, num, den, label, amount, State}
 use Rattle.level.specs.Walk.{Within, Walking}
 use Rattle.level.proofs.Amounts.{grouped}
 use Rattle.level.proofs.Firsts.{first_is, first_none}

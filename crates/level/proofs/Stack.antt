@@ -1,9 +1,9 @@
 -- Each group and each part that waits has an hour, so there are few.
-use Rattle.std.proofs.Common.{◌≡◌, ℕ, zero, suc, ◌+◌, ◌*◌, ◌<◌, ◌≤◌, Bool, true, false, cond, not, ◌&&◌, ◌||◌, eqb, ltb, leb, ◌⊎◌, sym, refl, ap, ◌∙◌, inl, inr, mul-le-mul_right, mul_assoc, mul_comm, mul_right_comm, le_of_mul-le-mul_right, arith}
+use Rattle.std.proofs.Common.{◌≡◌, ℕ, ◌+◌, ◌<◌, ◌≤◌, Bool, cond, ◌||◌, ltb, leb, ◌∙◌, inl, inr, arith}
 use Rattle.std.proofs.lemmas.Bool.Decides.{nat_tests}
-use Rattle.std.proofs.lemmas.Bool.{cases_Bool, cases_eq, cases_lt, eqb-true, eqb-false, eq-eqb, ne_eqb}
-use Rattle.fraction.specs.Sum.{sum, part, size, both, without}
-use Rattle.fraction.proofs.Sums.{sum_same, sum_le, sum_lt, sum_zero, sum_one, sum_swap, sum_bound, sum_add, sum_const, sum_tail, part_same_test, part_split, size_has}
+use Rattle.std.proofs.lemmas.Bool.{cases_lt, eq-eqb}
+use Rattle.fraction.specs.Sum.{sum, size}
+use Rattle.fraction.proofs.Sums.{sum_same, sum_le, sum_lt, sum_zero, sum_one, sum_swap, sum_bound, sum_add, sum_const, sum_tail, size_has}
 use Rattle.level.specs.Stack.{is, Stack}
 
 -- each hour has one label, so the sets of hours with labels below z have at most n hours together

@@ -1,10 +1,10 @@
 -- What a step makes of the groups and parts that the code holds.
-use Rattle.std.proofs.Common.{◌≡◌, ℕ, suc, ◌+◌, ◌*◌, ◌<◌, ◌≤◌, Bool, true, false, cond, not, ◌&&◌, eqb, ◌⊎◌, List, length, get_or, sym, refl, ap, ◌∙◌, subst, inl, inr, arith}
+use Rattle.std.proofs.Common.{◌≡◌, ℕ, suc, ◌<◌, ◌≤◌, Bool, true, cond, List, length, get_or, sym, refl, ap, ◌∙◌, subst, inl, inr, arith}
 use mathlib.Core.Path.{fun_ext}
 use Rattle.std.proofs.lemmas.Bool.{cases_eq, cases_lt, cases_Bool}
 use Rattle.std.proofs.lemmas.Bool.Decides.{nat_tests}
 use Rattle.fraction.specs.declared.exact.Fraction.{Fraction}
-use Rattle.fraction.specs.Sum.{sum, size, both, without}
+use Rattle.fraction.specs.Sum.{size, both, without}
 use Rattle.fraction.proofs.Sums.{part_same_test, sum_tail, size_le}
 use Rattle.sets.specs.declared.hours.Hours.{Hours}
 use Rattle.night.specs.declared.task.Task.{Task}
@@ -16,7 +16,7 @@ use Rattle.level.specs.Parts.{nought, num, den, label, amount, State, Held, Top,
 use Rattle.level.specs.Change.{Split, Taken}
 use Rattle.level.specs.Gathered.{scattered}
 use Rattle.level.specs.Row.{Written}
-use Rattle.level.specs.Stack.{is, Stack, Amounts}
+use Rattle.level.specs.Stack.{is}
 use Rattle.level.proofs.Amounts.{amounts_kept, amounts_more}
 use Rattle.level.proofs.Stack.{some_size}
 use Rattle.level.proofs.Steps.{split, split_room, split_less, take}

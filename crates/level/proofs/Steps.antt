@@ -1,8 +1,8 @@
 -- Steps: the part on top is split, or taken as the next group.
-use Rattle.std.proofs.Common.{◌≡◌, ℕ, zero, suc, ◌+◌, ◌*◌, ◌<◌, ◌≤◌, Bool, true, false, cond, not, ◌&&◌, ◌||◌, eqb, ltb, leb, ◌⊎◌, sym, refl, ap, ◌∙◌, inl, inr, mul_comm, arith}
+use Rattle.std.proofs.Common.{◌≡◌, ℕ, suc, ◌*◌, ◌<◌, ◌≤◌, Bool, true, false, cond, eqb, sym, refl, ◌∙◌, inl, inr, arith}
 use Rattle.std.proofs.lemmas.Bool.Decides.{nat_tests}
-use Rattle.std.proofs.lemmas.Bool.{cases_Bool, cases_eq, cases_lt, eqb-true, eqb-false, eq-eqb, ne_eqb, and_from}
-use Rattle.fraction.specs.Sum.{sum, part, size, both, without}
+use Rattle.std.proofs.lemmas.Bool.{cases_Bool, cases_eq, eqb-true, eq-eqb, and_from}
+use Rattle.fraction.specs.Sum.{part, size, both, without}
 use Rattle.fraction.proofs.Sums.{part_split, part_same_test, sum_zero, size_has}
 use Rattle.level.specs.Bounds.{Upper, Lower}
 use Rattle.level.specs.Cut.{Levels, Splits, open_to}

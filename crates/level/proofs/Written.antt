@@ -1,8 +1,7 @@
 -- Writing the rows of a group, one by one.
-use Rattle.std.proofs.Common.{◌≡◌, ℕ, ◌+◌, ◌*◌, ◌<◌, ◌≤◌, Bool, true, false, cond, ◌⊎◌, List, get_or, sym, refl, ap, ◌∙◌, inl, inr, arith}
+use Rattle.std.proofs.Common.{◌≡◌, ℕ, ◌+◌, ◌*◌, ◌<◌, ◌≤◌, Bool, true, false, List, get_or, refl, ◌∙◌, inl, inr, arith}
 use Rattle.std.proofs.lemmas.Bool.{cases_eq, cases_lt}
 use Rattle.fraction.specs.Sum.{size}
-use Rattle.level.specs.Gathered.{scattered}
 use Rattle.level.specs.Parts.{amount}
 use Rattle.level.specs.Row.{Written}
 

@@ -1,8 +1,7 @@
 -- How labels change when the part on top is split or taken. Assumes nothing: these are definitions.
-use Rattle.std.specs.Prelude.{◌≡◌, ℕ, suc, ◌+◌, ◌-◌, ◌<◌, ◌≤◌, Bool, true, false, cond, List, length, get_or, ◌≢◌, slice_index_or}
+use Rattle.std.specs.Prelude.{◌≡◌, ℕ, ◌+◌, ◌-◌, ◌<◌, ◌≤◌, Bool, true, false, cond, List, length, get_or, ◌≢◌, slice_index_or}
 use Rattle.fraction.specs.declared.exact.Fraction.{Fraction}
 use Rattle.fraction.specs.Sum.{size, both, without}
-use Rattle.sets.specs.declared.hours.Hours.{Hours}
 use Rattle.night.specs.declared.task.Task.{Task}
 use Rattle.sets.specs.Hours.{has, blank}
 use Rattle.night.specs.Task.{may}

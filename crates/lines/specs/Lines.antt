@@ -1,5 +1,5 @@
 -- The lines that a person reads. Assumes nothing: these are definitions.
-use Rattle.std.specs.Prelude.{ℕ, zero, suc, ◌+◌, Bool, true, ◌&&◌, List, [], ◌∷◌, ◌++◌, codes, decimal}
+use Rattle.std.specs.Prelude.{ℕ, zero, suc, Bool, true, ◌&&◌, List, [], ◌∷◌, ◌++◌, codes, decimal}
 use Rattle.fraction.specs.Fraction.{fraction_text}
 
 -- hour 1 load 8/3

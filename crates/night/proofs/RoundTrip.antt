@@ -5,7 +5,7 @@ use Rattle.std.specs.List.{flat_map}
 use Rattle.std.proofs.lemmas.List.{take_at, drop_at, take-take, drop-take, drop-drop, take-append-drop, nil_from_length, ext_get_or, length-take-le, length-drop, get_or-take, get_or-drop}
 use Rattle.night.specs.declared.task.Task.{Task}
 use Rattle.night.specs.Bytes.{little, digits}
-use Rattle.night.specs.Format.{width, place, number_at, hours_in, count_in, units_in, row_in, task_in, task_bytes, night_bytes, WellFormed, Says}
+use Rattle.night.specs.Format.{width, place, number_at, hours_in, count_in, units_in, row_in, task_in, task_bytes, night_bytes}
 use Rattle.night.specs.Task.{blank_task, Fits, Sound}
 use Rattle.night.specs.Theorems.{Bytes, ReadsBack, WritesBack}
 use Rattle.night.proofs.Places.{place_next}

@@ -5,7 +5,7 @@ use Rattle.std.proofs.lemmas.List.{length-take, get_or-take, get_or-drop, get_or
 use Rattle.std.proofs.lemmas.Bool.{cases_lt}
 use Rattle.sets.specs.Bit.{bit}
 use Rattle.night.specs.Bytes.{little}
-use Rattle.night.specs.Format.{WellFormed, width, place, hours_in, count_in, task_in}
+use Rattle.night.specs.Format.{width, place, hours_in, task_in}
 use Rattle.night.specs.Theorems.{Bytes, RowBits}
 use Rattle.sets.proofs.Bits.{bit_zero, bit_suc, bit_first}
 use Rattle.sets.proofs.Members.{has_bit}

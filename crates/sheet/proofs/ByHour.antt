@@ -1,5 +1,5 @@
 -- The loads of a sheet, hour by hour.
-use Rattle.std.proofs.Common.{◌≡◌, ℕ, ◌+◌, ◌*◌, ◌/◌, ◌<◌, ◌≤◌, Bool, true, false, cond, ◌&&◌, eqb, ltb, ◌⊎◌, List, length, get_or, sym, refl, ap, ◌∙◌, inl, inr, arith, ltb-true, lt-ltb, eq-eqb, eqb-true}
+use Rattle.std.proofs.Common.{◌≡◌, ℕ, ◌+◌, ◌*◌, ◌/◌, ◌<◌, ◌≤◌, Bool, true, false, cond, ◌&&◌, eqb, ltb, List, length, get_or, sym, refl, ap, ◌∙◌, inl, inr, arith, ltb-true, lt-ltb, eq-eqb, eqb-true}
 use borrow.Author.Tests.{clash}
 use Rattle.std.proofs.lemmas.Bool.{and_parts, cases_eq}
 use Rattle.fraction.specs.Sum.{sum, size}
@@ -11,7 +11,7 @@ use Rattle.night.specs.declared.task.Task.{Task}
 use Rattle.sheet.specs.Layout.{lies, Starts, Overs}
 use Rattle.even.specs.DayOf.{day}
 use Rattle.sheet.specs.Sheet.{amount, den, num, over, place, plan, start, word}
-use Rattle.sheet.specs.Verdict.{Loaded, Refused}
+use Rattle.sheet.specs.Verdict.{Loaded}
 use Rattle.sheet.proofs.Places.{place_end}
 
 -- the hours before s are right, and the amounts of hour s come next

@@ -1,9 +1,9 @@
 -- The amounts of a task, hour by hour, and what they add up to.
-use Rattle.std.proofs.Common.{◌≡◌, ℕ, ◌+◌, ◌*◌, ◌/◌, ◌^◌, ◌<◌, ◌≤◌, Bool, true, false, cond, ◌⊎◌, List, length, get_or, sym, refl, ap, ◌∙◌, inl, inr, mul_assoc, mul_comm, arith}
+use Rattle.std.proofs.Common.{◌≡◌, ℕ, ◌+◌, ◌*◌, ◌/◌, ◌^◌, ◌<◌, ◌≤◌, Bool, true, false, cond, List, get_or, sym, refl, ap, ◌∙◌, inl, inr, mul_assoc, mul_comm, arith}
 use native.Mathlib.Nat.{eq_of_mul-eq-mul_right}
 use Rattle.std.proofs.lemmas.Bool.{cases_lt}
 use Rattle.fraction.specs.Sum.{sum, size}
-use Rattle.fraction.proofs.Sums.{sum_more, sum_step, sum_bound, sum_same, sum_mul}
+use Rattle.fraction.proofs.Sums.{sum_more, sum_step, sum_bound, sum_mul}
 use Rattle.even.specs.Day.{Day}
 use Rattle.even.specs.Whole.{whole}
 use Rattle.even.proofs.Shares.{whole_share, whole_some}

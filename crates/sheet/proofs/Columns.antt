@@ -1,8 +1,8 @@
 -- A column of a sheet, task by task.
-use Rattle.std.proofs.Common.{◌≡◌, ℕ, ◌+◌, ◌*◌, ◌/◌, ◌^◌, ◌<◌, ◌≤◌, Bool, true, false, cond, ◌⊎◌, List, length, get_or, set, sym, refl, ap, ◌∙◌, inl, inr, arith, length-set, get_or-set_other, get_or-set_same}
-use Rattle.std.proofs.lemmas.Bool.{cases_eq, cases_Bool}
+use Rattle.std.proofs.Common.{◌≡◌, ℕ, ◌+◌, ◌*◌, ◌/◌, ◌^◌, ◌<◌, ◌≤◌, Bool, true, false, cond, List, length, get_or, set, sym, refl, ◌∙◌, inl, inr, arith, length-set, get_or-set_other, get_or-set_same}
+use Rattle.std.proofs.lemmas.Bool.{cases_eq}
 use Rattle.fraction.specs.Sum.{sum}
-use Rattle.fraction.proofs.Sums.{sum_none, sum_more, sum_step}
+use Rattle.fraction.proofs.Sums.{sum_none, sum_more}
 use Rattle.even.specs.Whole.{whole}
 use Rattle.night.specs.Task.{may}
 use Rattle.night.specs.declared.task.Task.{Task}

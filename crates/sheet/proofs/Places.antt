@@ -1,6 +1,6 @@
 -- Where a sheet's bytes stand: laws of starts and places.
-use Rattle.std.proofs.Common.{◌≡◌, ℕ, zero, suc, ◌+◌, ◌*◌, ◌/◌, ◌%◌, ◌<◌, ◌≤◌, Bool, true, false, cond, ◌⊎◌, List, length, get_or, sym, refl, ap, ◌∙◌, inl, inr, mul-le-mul_right, arith, le-ltb, lt-ltb}
-use Rattle.std.proofs.lemmas.Bool.{cases_eq, cases_lt, cases_Bool}
+use Rattle.std.proofs.Common.{◌≡◌, ℕ, zero, suc, ◌+◌, ◌*◌, ◌/◌, ◌%◌, ◌<◌, ◌≤◌, true, cond, List, length, get_or, sym, refl, ap, inl, inr, mul-le-mul_right, arith, le-ltb, lt-ltb}
+use Rattle.std.proofs.lemmas.Bool.{cases_eq, cases_Bool}
 use Rattle.fraction.specs.Sum.{sum, size}
 use Rattle.fraction.proofs.Sums.{sum_none, sum_more, sum_step, sum_mono, sum_bound, size_le}
 use Rattle.even.specs.Day.{Day}
@@ -12,7 +12,6 @@ use Rattle.night.specs.declared.task.Task.{Task}
 use Rattle.sets.specs.Bit.{bit}
 use Rattle.sheet.specs.First.{first}
 use Rattle.sheet.specs.Verdict.{Sized}
-use Rattle.even.specs.DayOf.{day}
 use Rattle.sheet.specs.Sheet.{den, first_of, group, groups, over, place, row, start, within}
 
 -- terms that are 0 from n on add nothing

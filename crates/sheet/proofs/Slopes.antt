@@ -1,5 +1,5 @@
 -- Loads compared by cross products.
-use Rattle.std.proofs.Common.{◌≡◌, ℕ, zero, suc, ◌+◌, ◌*◌, ◌/◌, ◌^◌, ◌<◌, ◌≤◌, Bool, true, false, ◌⊎◌, List, get_or, inl, inr, mul-le-mul_right, mul-pos, mul_right_comm, le_of_mul-le-mul_right, arith, ltb-false, ltb-true, le-ltb}
+use Rattle.std.proofs.Common.{◌≡◌, ℕ, zero, suc, ◌+◌, ◌*◌, ◌/◌, ◌^◌, ◌<◌, ◌≤◌, Bool, true, false, List, get_or, inl, inr, mul-le-mul_right, mul-pos, mul_right_comm, le_of_mul-le-mul_right, arith, ltb-false, ltb-true, le-ltb}
 use Rattle.std.proofs.lemmas.Bool.{cases_eq, cases_lt}
 use Rattle.even.specs.Day.{Day, load}
 use Rattle.even.specs.Whole.{whole}

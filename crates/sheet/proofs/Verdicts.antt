@@ -1,12 +1,12 @@
 -- What makes a sheet accepted, and that no sheet is both accepted and refused.
-use Rattle.std.proofs.Common.{◌≡◌, ℕ, ◌*◌, ◌<◌, ◌≤◌, true, false, ◌⊎◌, List, is_ok, Ok, Err, Result, refl, inl, inr, arith, MatchResult}
+use Rattle.std.proofs.Common.{◌≡◌, ℕ, ◌<◌, true, false, List, is_ok, Ok, Err, Result, refl, inl, inr, arith, MatchResult}
 use borrow.Author.Tests.{clash}
-use Rattle.even.specs.Day.{Day, Plan, Even, load}
+use Rattle.even.specs.Day.{Day, Even}
 use Rattle.even.specs.Whole.{whole}
 use Rattle.even.proofs.Shares.{whole_some}
 use Rattle.even.proofs.Any.{cheapest, lowest_peak, most_even}
 use Rattle.sheet.specs.Sheet.{amount, plan}
-use Rattle.sheet.specs.Verdict.{Accepted, Adds, Level, Loaded, NotEven, Refused, Sized, Unbeaten, code}
+use Rattle.sheet.specs.Verdict.{Accepted, Adds, Level, Loaded, Refused, Sized, Unbeaten, code}
 use Rattle.sheet.specs.declared.refusal.Refusal.{Refusal}
 
 module _ (y : Day) (b : List ℕ) where

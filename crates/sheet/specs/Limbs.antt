@@ -1,5 +1,5 @@
 -- A number as words of 64 bits, low word first, and a sum of amounts in parts. Assumes nothing: these are definitions.
-use Rattle.std.specs.Prelude.{ℕ, zero, suc, ◌+◌, ◌*◌, ◌/◌, ◌^◌, List, slice_index}
+use Rattle.std.specs.Prelude.{ℕ, zero, suc, ◌+◌, ◌*◌, ◌^◌, List, slice_index}
 
 -- what a one in word n stands for
 unfoldable pub base : ℕ → ℕ

@@ -1,22 +1,21 @@
 -- A sheet that says a plan made of groups is accepted.
-use Rattle.std.proofs.Common.{◌≡◌, ℕ, zero, suc, ◌+◌, ◌*◌, ◌/◌, ◌<◌, ◌≤◌, Bool, true, false, cond, eqb, ◌⊎◌, List, length, get_or, take, IfOk, Ok, Err, Result, sym, refl, ap, ◌∙◌, inl, inr, arith, lit<, length-take-le, eq-eqb, eqb-true, MatchResult}
+use Rattle.std.proofs.Common.{◌≡◌, ℕ, ◌+◌, ◌*◌, ◌/◌, ◌<◌, false, List, length, get_or, take, IfOk, Ok, Err, Result, sym, refl, ap, ◌∙◌, inl, inr, arith, lit<, length-take-le, eq-eqb, eqb-true, MatchResult}
 use Rattle.std.proofs.lemmas.Bool.{cases_Bool, cases_lt}
 use Rattle.fraction.specs.declared.exact.Fraction.{Fraction}
 use Rattle.fraction.specs.Sum.{sum}
 use Rattle.fraction.proofs.Fractions.{coprime_one}
 use Rattle.fraction.proofs.Sums.{sum_same}
-use Rattle.even.specs.Day.{Day, Even, Plan, load}
+use Rattle.even.specs.Day.{Day, Even, load}
 use Rattle.even.specs.DayOf.{day}
-use Rattle.even.specs.Grouped.{Grouped, Levelled, spread}
+use Rattle.even.specs.Grouped.{spread}
 use Rattle.even.specs.Whole.{whole}
 use Rattle.even.proofs.GroupedEven.{grouped_is_even}
 use Rattle.night.specs.Format.{width}
 use Rattle.night.specs.Task.{may}
 use Rattle.sets.specs.declared.hours.Hours.{Hours}
 use Rattle.night.specs.declared.task.Task.{Task}
-use Rattle.sheet.specs.First.{first}
-use Rattle.sheet.specs.Sheet.{amount, den, first_of, group, groups, num, over, plan, row, start, within}
-use Rattle.sheet.specs.Verdict.{Accepted, Loaded, Sized}
+use Rattle.sheet.specs.Sheet.{amount, den, first_of, group, over, plan, row, within}
+use Rattle.sheet.specs.Verdict.{Accepted}
 use Rattle.sheet_writer.specs.Written.{LevelPlan, Says, Wrote, span}
 use Rattle.sheet_writer.specs.declared.refusal.Unwritten.{Unwritten}
 use Rattle.sheet.proofs.Firsts.{first_finds}

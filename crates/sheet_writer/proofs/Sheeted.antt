@@ -1,5 +1,5 @@
 -- The plan of a night goes onto a sheet that is accepted.
-use Rattle.std.proofs.Common.{◌≡◌, ℕ, ◌+◌, ◌*◌, ◌<◌, ◌≤◌, true, false, cond, ◌&&◌, eqb, ltb, List, length, get_or, sym, refl, ap, ◌∙◌, inl, inr, mul-le-mul_right, arith}
+use Rattle.std.proofs.Common.{◌≡◌, ℕ, ◌<◌, ◌≤◌, List, length, get_or, refl, ap, ◌∙◌, inl, inr, mul-le-mul_right, arith}
 use Rattle.std.proofs.lemmas.List.{get_or_default}
 use Rattle.std.proofs.lemmas.Bool.{cases_lt, lt-ltb, le-ltb}
 use Rattle.fraction.specs.declared.exact.Fraction.{Fraction}
@@ -10,7 +10,6 @@ use Rattle.night.specs.Night.{hours_of, tasks_of}
 use Rattle.even.specs.DayOf.{day_of}
 use Rattle.level.specs.declared.levels.Levels.{Levels}
 use Rattle.level.specs.Levels.{Solved, hour_group, needed}
-use Rattle.level.specs.Load.{level_at}
 use Rattle.level.specs.Parts.{num, den, nought}
 use Rattle.sheet_writer.specs.Planned.{room}
 use Rattle.sheet_writer.specs.Written.{Fitting, LevelPlan, NotWritten, span}

@@ -1,9 +1,9 @@
 -- What a writer has put so far, step by step.
-use Rattle.std.proofs.Common.{◌≡◌, ℕ, zero, suc, ◌+◌, ◌*◌, ◌/◌, ◌%◌, ◌^◌, ◌<◌, ◌≤◌, Bool, true, false, cond, ◌⊎◌, List, length, get_or, sym, refl, ap, ◌∙◌, inl, inr, mul-le-mul_right, arith}
-use Rattle.std.proofs.lemmas.Bool.{cases_eq, cases_lt}
+use Rattle.std.proofs.Common.{◌≡◌, ℕ, ◌+◌, ◌*◌, ◌/◌, ◌%◌, ◌<◌, ◌≤◌, true, List, length, get_or, sym, refl, ap, ◌∙◌, inl, inr, mul-le-mul_right, arith}
+use Rattle.std.proofs.lemmas.Bool.{cases_eq}
 use Rattle.fraction.specs.declared.exact.Fraction.{Fraction}
-use Rattle.fraction.specs.Sum.{size, sum}
-use Rattle.fraction.proofs.Sums.{sum_none, sum_more, sum_step}
+use Rattle.fraction.specs.Sum.{sum}
+use Rattle.fraction.proofs.Sums.{sum_step}
 use Rattle.even.specs.DayOf.{day}
 use Rattle.sets.specs.Bit.{bit}
 use Rattle.night.specs.Format.{width}

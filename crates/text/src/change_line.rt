@@ -87,8 +87,8 @@ pub(crate) fn read_change(
     line: usize,
     mistakes: &mut Vec<Mistake>,
 ) -> Result<Option<Change>, AllocError>
-    ensures ok { IfOk result (λ o. SaysIt content.now (change_said (words content.now)) o) }
-    ensures ok_2 { OnOk result (told mistakes.new ≡ told mistakes.old ++ wrong_change line content.now (change_said (words content.now))) }
+    ensures read { IfOk result (λ o. SaysIt content.now (change_said (words content.now)) o) }
+    ensures told { OnOk result (told mistakes.new ≡ told mistakes.old ++ wrong_change line content.now (change_said (words content.now))) }
 {
     match read_said(content) {
         Said::Comes => {

@@ -43,8 +43,8 @@ fn read_all(
     mistakes: &mut Vec<Mistake>,
 ) -> Result<Vec<Change>, AllocError>
     requires { length text.now ≤ 2 ^ 20 }
-    ensures ok { IfOk result (λ v. Meant (change_lines (lines text.now)) v.items) }
-    ensures ok_2 { OnOk result (told mistakes.new ≡ told mistakes.old ++ wrong_changes 1 (lines text.now)) }
+    ensures read { IfOk result (λ v. Meant (change_lines (lines text.now)) v.items) }
+    ensures told { OnOk result (told mistakes.new ≡ told mistakes.old ++ wrong_changes 1 (lines text.now)) }
 {
     let mut changes = Vec::new(heap);
     let mut number = 1;

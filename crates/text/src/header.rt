@@ -53,8 +53,8 @@ pub fn read_header(
     line: usize,
     mistakes: &mut Vec<Mistake>,
 ) -> Result<usize, AllocError>
-    ensures ok { IfOk result (λ n. n ≡ hours_said (header_says (words content.now))) }
-    ensures ok_2 { OnOk result (told mistakes.new ≡ told mistakes.old ++ wrong_header line (header_says (words content.now))) }
+    ensures read { IfOk result (λ n. n ≡ hours_said (header_says (words content.now))) }
+    ensures told { OnOk result (told mistakes.new ≡ told mistakes.old ++ wrong_header line (header_says (words content.now))) }
 {
     match header_says(content) {
         Some(hours) => Ok(hours),

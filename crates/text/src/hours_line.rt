@@ -20,8 +20,8 @@ fn named_hours(
     mistakes: &mut Vec<Mistake>,
 ) -> Result<Hours, AllocError>
     requires { hours ≤ 96 }
-    ensures ok { IfOk result (λ h. (k : ℕ) → has h k ≡ covers hours (words text.now) k) }
-    ensures ok_2 { OnOk result (told mistakes.new ≡ told mistakes.old ++ wrong_spans hours line (words text.now)) }
+    ensures read { IfOk result (λ h. (k : ℕ) → has h k ≡ covers hours (words text.now) k) }
+    ensures told { OnOk result (told mistakes.new ≡ told mistakes.old ++ wrong_spans hours line (words text.now)) }
 {
     let mut set = Hours::none();
     let mut rest = text;
@@ -44,8 +44,8 @@ pub fn read_hours(
     mistakes: &mut Vec<Mistake>,
 ) -> Result<Hours, AllocError>
     requires { hours ≤ 96 }
-    ensures ok { IfOk result (λ h. (k : ℕ) → has h k ≡ covers hours (words text.now) k) }
-    ensures ok_2 { OnOk result (told mistakes.new ≡ told mistakes.old ++ wrong_hours hours line (words text.now)) }
+    ensures read { IfOk result (λ h. (k : ℕ) → has h k ≡ covers hours (words text.now) k) }
+    ensures told { OnOk result (told mistakes.new ≡ told mistakes.old ++ wrong_hours hours line (words text.now)) }
 {
     if next_word(text).is_none() {
         blame(heap, mistakes, line, Fault::NoHour, &[])?;

@@ -70,8 +70,8 @@ fn read_units(
     line: usize,
     mistakes: &mut Vec<Mistake>,
 ) -> Result<u32, AllocError>
-    ensures ok { IfOk result (λ u. u ≡ units_said (numeral word.now)) }
-    ensures ok_2 { OnOk result (told mistakes.new ≡ told mistakes.old ++ wrong_units line word.now (numeral word.now)) }
+    ensures read { IfOk result (λ u. u ≡ units_said (numeral word.now)) }
+    ensures told { OnOk result (told mistakes.new ≡ told mistakes.old ++ wrong_units line word.now (numeral word.now)) }
 {
     let fault = match number(word) {
         Some(units) => {
@@ -103,8 +103,8 @@ pub fn read_task(
     mistakes: &mut Vec<Mistake>,
 ) -> Result<Entry, AllocError>
     requires { hours ≤ 96 }
-    ensures ok { IfOk result (λ e. Entered hours content.now e.task e.name) }
-    ensures ok_2 { OnOk result (told mistakes.new ≡ told mistakes.old ++ wrong_task hours line content.now) }
+    ensures read { IfOk result (λ e. Entered hours content.now e.task e.name) }
+    ensures told { OnOk result (told mistakes.new ≡ told mistakes.old ++ wrong_task hours line content.now) }
 {
     let Some((left, right)) = split_once(content, Mark::Byte(b':')) else {
         blame(heap, mistakes, line, Fault::Colon, &[])?;

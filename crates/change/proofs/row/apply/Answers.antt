@@ -5,7 +5,6 @@ use Rattle.night.specs.Night.{hours_of, tasks_of}
 use Rattle.night.specs.Task.{Sound}
 use Rattle.change.specs.declared.kinds.Change.{Change}
 use Rattle.change.specs.Row.{AllCan, after_row}
-use Rattle.change.specs.Changed.{Changed}
 use Rattle.change.proofs.Applied.{sound_after, changed}
 use Rattle.change.proofs.row.apply.Goals as goal
 

@@ -1,5 +1,3 @@
-use Rattle.std.proofs.Common.{subst}
-use Rattle.change.specs.Row.{Tried}
 use Rattle.change.proofs.Rows.{made_none, made_more, made_not, made_all}
 use Rattle.change.proofs.row.make_all.Goals as goal
 

@@ -1,4 +1,4 @@
-use Rattle.std.proofs.Common.{◌≡◌, ◌*◌, length, sym, ap, ◌∙◌, subst, arith}
+use Rattle.std.proofs.Common.{◌*◌, length, sym, ap, subst, arith}
 use Rattle.night.specs.Night.{hours_of, tasks_of}
 use Rattle.level.specs.Walk.{Within, Walking}
 use Rattle.level.proofs.Solved.{night_within, solved}

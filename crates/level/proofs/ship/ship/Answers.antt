@@ -1,4 +1,4 @@
-use Rattle.std.proofs.Common.{◌≡◌, List, length, get_or, take, replicate, sym, subst, arith}
+use Rattle.std.proofs.Common.{length, get_or, take, replicate, subst, arith}
 use Rattle.fraction.proofs.Sums.{size_le}
 use Rattle.sets.specs.Hours.{blank}
 use Rattle.flow.specs.Lent.{permits, within, flow}

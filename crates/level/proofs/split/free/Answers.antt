@@ -1,13 +1,8 @@
-use Rattle.std.proofs.Common.{◌≡◌, ℕ, ◌-◌, ◌<◌, ◌≤◌, Bool, true, false, sym, refl, ◌∙◌, inl, inr, arith}
+use Rattle.std.proofs.Common.{◌-◌, ◌∙◌, inl, inr, arith}
 use Rattle.std.proofs.lemmas.List.{get_or-set_same, get_or-set_other}
 use Rattle.std.proofs.lemmas.Bool.{cases_eq}
 use Rattle.std.proofs.lemmas.Bool.Decides.{nat_tests}
-use Rattle.fraction.specs.Sum.{without}
 use Rattle.sets.specs.Hours.{has}
-use Rattle.night.specs.Task.{may}
-use Rattle.level.specs.Cut.{open_to}
-use Rattle.level.specs.Parts.{label}
-use Rattle.level.specs.Stack.{is}
 use Rattle.level.proofs.Changes.{meets_low, freed_more, freed_past}
 use Rattle.level.proofs.Crews.{crew_in, crew_out}
 use Rattle.level.proofs.split.free.Goals as goal

@@ -1,4 +1,4 @@
-use Rattle.std.proofs.Common.{◌≡◌, ◌||◌, sym, ap, ◌∙◌}
+use Rattle.std.proofs.Common.{◌||◌, sym, ap, ◌∙◌}
 use Rattle.night.specs.Task.{may}
 use Rattle.level.proofs.Anys.{any_zero, any_next}
 use Rattle.level.proofs.start.used.Goals as goal

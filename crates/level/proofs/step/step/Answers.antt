@@ -1,5 +1,4 @@
 use Rattle.std.proofs.Common.{refl, arith}
-use Rattle.level.specs.Parts.{Top, top_tasks}
 use Rattle.level.proofs.Crewed.{crews_split, crews_take}
 use Rattle.level.proofs.States.{held_top, split_below, split_fewer, step_split, step_take}
 use Rattle.level.proofs.step.step.Goals as goal

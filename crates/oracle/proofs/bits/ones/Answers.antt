@@ -1,4 +1,4 @@
-use Rattle.std.proofs.Common.{min, arith}
+use Rattle.std.proofs.Common.{arith}
 use Rattle.std.proofs.lemmas.Nat.{one_shl, pow_pos}
 use Rattle.oracle.proofs.bits.ones.Goals as goal
 

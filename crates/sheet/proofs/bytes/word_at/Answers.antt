@@ -1,4 +1,3 @@
-use Rattle.std.proofs.Common.{rules}
 use Rattle.sheet.specs.Sheet.{word}
 use Rattle.sheet.proofs.bytes.word_at.Goals as goal
 

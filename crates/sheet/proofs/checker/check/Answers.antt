@@ -1,6 +1,5 @@
-use Rattle.std.proofs.Common.{◌≡◌, ℕ, sym, ap, subst, rules, MatchResult}
-use Rattle.night.specs.Night.{hours_of, tasks_of}
-use Rattle.even.specs.DayOf.{day, day_of}
+use Rattle.std.proofs.Common.{rules, MatchResult}
+use Rattle.even.specs.DayOf.{day_of}
 use Rattle.sheet.specs.Verdict.{Accepted, Refused, code}
 use Rattle.sheet.proofs.Verdicts.{verdict_all, verdict_best}
 use Rattle.sheet.proofs.checker.check.Goals as goal

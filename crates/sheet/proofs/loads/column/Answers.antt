@@ -1,5 +1,4 @@
-use Rattle.std.proofs.Common.{◌≡◌, ◌+◌, ◌*◌, ◌/◌, length, get_or, sym, refl, ap, ◌∙◌, arith}
-use Rattle.even.specs.Whole.{whole}
+use Rattle.std.proofs.Common.{◌≡◌, length, sym, refl, ap, ◌∙◌, arith}
 use Rattle.fraction.specs.Sum.{sum}
 use Rattle.sheet.specs.Layout.{lies}
 use Rattle.sheet.specs.Tally.{parts}

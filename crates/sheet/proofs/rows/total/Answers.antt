@@ -1,4 +1,4 @@
-use Rattle.std.proofs.Common.{cond, sym, refl, ap, ◌∙◌, arith}
+use Rattle.std.proofs.Common.{cond, sym, arith}
 use Rattle.fraction.proofs.Sums.{sum_none, sum_more}
 use Rattle.sets.specs.Hours.{has}
 use Rattle.sheet.specs.Layout.{listed}

@@ -1,4 +1,4 @@
-use Rattle.std.proofs.Common.{◌≡◌, ℕ, ◌+◌, ◌*◌}
+use Rattle.std.proofs.Common.{◌≡◌, ◌+◌, ◌*◌}
 use Rattle.fraction.specs.Sum.{size, sum}
 use Rattle.sets.specs.Hours.{has}
 use Rattle.sheet.specs.Layout.{listed}

@@ -1,9 +1,7 @@
-use Rattle.std.proofs.Common.{◌≡◌, ◌+◌, ◌*◌, ◌≤◌, cond, get_or, sym, refl, ap, ◌∙◌, inl, inr, arith}
+use Rattle.std.proofs.Common.{cond, sym, ◌∙◌, inl, inr, arith}
 use Rattle.std.proofs.lemmas.Bool.{both_ways, cases_eq}
-use Rattle.fraction.specs.Sum.{size}
-use Rattle.fraction.proofs.Sums.{sum_none, sum_mono}
+use Rattle.fraction.proofs.Sums.{sum_none}
 use Rattle.sets.specs.Hours.{has}
-use Rattle.sheet.specs.Layout.{listed}
 use Rattle.sheet.proofs.ByTask.{size_skip, size_take, size_room, listed_take}
 use Rattle.sheet_writer.proofs.Puts.{kept_none, kept_join, listed_kept}
 use Rattle.sheet_writer.proofs.put.put_row.Goals as goal

@@ -1,4 +1,4 @@
-use Rattle.std.proofs.Common.{◌≡◌, ◌+◌, ◌*◌, ◌≤◌, sym, ap, ◌∙◌, mul-le-mul_right, arith}
+use Rattle.std.proofs.Common.{◌+◌, ◌*◌, ◌≤◌, ap, mul-le-mul_right, arith}
 use Rattle.night.specs.Format.{width}
 use Rattle.sheet_writer.specs.Written.{Kept}
 use Rattle.sheet_writer.proofs.Puts.{kept_join, kept_wide}

@@ -1,4 +1,4 @@
-use Rattle.std.proofs.Common.{◌≡◌, ◌+◌, sym, ap, ◌∙◌, arith, get_or-set_other, get_or-set_same}
+use Rattle.std.proofs.Common.{◌+◌, ◌∙◌, arith, get_or-set_other, get_or-set_same}
 use Rattle.sheet_writer.proofs.Puts.{kept_join, kept_set, kept_wide, word_same}
 use Rattle.sheet_writer.proofs.writer.put_load.Goals as goal
 

@@ -1,9 +1,9 @@
-use Rattle.std.proofs.Common.{◌≡◌, ◌+◌, ◌*◌, length, sym, ap, ◌∙◌, arith, get_or-set_same}
+use Rattle.std.proofs.Common.{◌+◌, ◌*◌, length, arith, get_or-set_same}
 use Rattle.fraction.specs.Sum.{sum}
 use Rattle.even.specs.DayOf.{day}
 use Rattle.night.specs.Format.{width}
 use Rattle.sheet.specs.Sheet.{row}
-use Rattle.sheet_writer.specs.Written.{Kept, TasksPut, span}
+use Rattle.sheet_writer.specs.Written.{Kept, TasksPut}
 use Rattle.sheet_writer.proofs.Puts.{kept_join, kept_set}
 use Rattle.sheet_writer.proofs.Writes.{says_by}
 use Rattle.sheet_writer.proofs.writer.put_sheet.Goals as goal

@@ -1,5 +1,4 @@
-use Rattle.std.proofs.Common.{◌≡◌, ◌+◌, ◌*◌, ◌≤◌, length, sym, ap, ◌∙◌, mul-le-mul_right, arith}
-use Rattle.fraction.specs.Sum.{sum}
+use Rattle.std.proofs.Common.{◌≡◌, ◌+◌, ◌*◌, ◌≤◌, length, mul-le-mul_right, arith}
 use Rattle.fraction.proofs.Sums.{sum_none, sum_more, sum_step}
 use Rattle.even.specs.DayOf.{day}
 use Rattle.sheet.specs.Sheet.{row}

@@ -27,4 +27,4 @@ returns c =
     subst (λ ls. Upto (lines c.args.text.now) ls c.loop-line.number (vec_items c.loop-line.changes) (told c.args.mistakes.now) (told c.loop-line.mistakes))
     c.in_default.ensures.one c.loop-line.invariant in
     let last = last_change (next_change before c.in_ok-add_change-2.ensures) in
-    record { ok = last.0; ok_2 = last.1 }
+    record { read = last.0; told = last.1 }

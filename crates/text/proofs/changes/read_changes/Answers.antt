@@ -10,7 +10,7 @@ use Rattle.text.proofs.changes.read_changes.Goals.{In-Ok}
 -- at the start there was no mistake
 all_told : (c : In-Ok) → told c.read_all.new.mistakes ≡ wrong_changes 1 (lines c.args.text.now)
 all_told c =
-    c.in-Ok.ensures.ok_2
+    c.in-Ok.ensures.told
     ∙ ap (λ l. map tell l ++ wrong_changes 1 (lines c.args.text.now)) c.new-mistakes.ensures.items
 
 pub returns-then-is_empty : goal.returns-then-is_empty
@@ -19,7 +19,7 @@ returns-then-is_empty c =
     record {
       fit = c.in_default.ensures;
       clean = sym (all_told (goal.at.returns-then-is_empty c).In-Ok) ∙ ap (map tell) none;
-      meant = c.in-Ok.ensures.ok;
+      meant = c.in-Ok.ensures.read;
     }
 
 pub returns-else-is_empty : goal.returns-else-is_empty

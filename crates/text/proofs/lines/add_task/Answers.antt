@@ -13,8 +13,8 @@ returns c =
       wrong =
           told_two (told c.args.reading.now.mistakes) (told c.check_count.new.mistakes) _ _ _
           (c.in_ok-check_count.ensures ∙ ap (λ k. told c.args.reading.now.mistakes ++ many c.args.number k) count)
-          c.in_ok-task.ensures.ok_2;
+          c.in_ok-task.ensures.told;
       listed = λ cs h.
           simp (c.in_ok-push.ensures.items, c.in_ok-push-2.ensures.items)
-          (listed_push _ cs _ _ _ _ _ h c.in_ok-task.ensures.ok);
+          (listed_push _ cs _ _ _ _ _ h c.in_ok-task.ensures.read);
     }

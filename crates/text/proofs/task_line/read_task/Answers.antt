@@ -9,11 +9,11 @@ pub returns : goal.returns
 returns c =
     let p = c.in-Some.ensures in
     record {
-      ok =
-          simp c.task_of-task-2.ensures.same (entered p _ _ _ _ (c.in_ok-units.ensures.ok ∙ ap (λ w. units_said (numeral w)) c.last_word.ensures)
-          c.task_of-task-2.ensures.word c.in_ok-hours.ensures.ok c.in_ok-name.ensures);
-      ok_2 =
+      read =
+          simp c.task_of-task-2.ensures.same (entered p _ _ _ _ (c.in_ok-units.ensures.read ∙ ap (λ w. units_said (numeral w)) c.last_word.ensures)
+          c.task_of-task-2.ensures.word c.in_ok-hours.ensures.read c.in_ok-name.ensures);
+      told =
           wrong_entered p _ _ (told c.args.mistakes.now) (told c.read_units.new.mistakes)
           (told c.read_hours.new.mistakes) c.last_word.result.now c.last_word.ensures
-          c.in_ok-units.ensures.ok_2 c.in_ok-hours.ensures.ok_2;
+          c.in_ok-units.ensures.told c.in_ok-hours.ensures.told;
     }

@@ -1,6 +1,5 @@
-use Rattle.std.proofs.Common.{◌≡◌, ℕ, ◌+◌, ◌-◌, false, arith}
+use Rattle.std.proofs.Common.{◌≡◌, ◌+◌, ◌-◌, arith}
 use Rattle.std.proofs.lemmas.Bool.Decides.{nat_tests}
-use Rattle.sets.specs.Hours.{has}
 use Rattle.sets.proofs.Members.{none_any}
 use Rattle.level.specs.TaskSet.{holds}
 use Rattle.level.proofs.task_set.TaskSet.next.Goals as goal

@@ -1,4 +1,4 @@
-use Rattle.std.proofs.Common.{◌≡◌, ◌+◌, ◌*◌, ◌/◌, sym, refl, ap, ◌∙◌, arith}
+use Rattle.std.proofs.Common.{◌≡◌, ◌+◌, ◌*◌, ◌/◌, refl, ap, ◌∙◌, arith}
 use Rattle.even.specs.Whole.{whole}
 use Rattle.sheet.specs.Limbs.{value}
 use Rattle.sheet.proofs.Words.{whole_words, no_carry}
