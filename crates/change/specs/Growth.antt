@@ -1,6 +1,6 @@
 -- Rows of changes that only add work, or only take work away, and what they do to loads. Assumes nothing: these are definitions.
 use Rattle.std.specs.Prelude.{ℕ, List}
-use Rattle.std.specs.List.{AllByRecursion as All}
+use Rattle.std.specs.List.{AllByRecursion}
 use Rattle.even.specs.Day.{Day, Plan, Even}
 use Rattle.even.specs.More.{NoMore}
 use Rattle.change.specs.declared.kinds.Change.{Change}
@@ -20,10 +20,10 @@ Takes (More j u) = ⊥
 
 -- each change of a row does
 abbrev pub OnlyAdds : List Change → Type 0
-OnlyAdds cs = All Adds cs
+OnlyAdds cs = AllByRecursion Adds cs
 
 abbrev pub OnlyTakes : List Change → Type 0
-OnlyTakes cs = All Takes cs
+OnlyTakes cs = AllByRecursion Takes cs
 
 -- day y is no heavier than day w: no hour has more load on y than on w, by even plans x and z, in parts of 1 / d and of 1 / e
 abbrev pub NoHeavier : Day → Day → Type 0
