@@ -38,7 +38,7 @@ impl From<fmt::Error> for Unprinted {
     }
 }
 
-// So does a text that wants to grow.
+// Want of memory, as a text that is written to says it.
 impl From<AllocError> for Unprinted {
     ghost from_gives = { λ _ y. y ≡ NoMemory };
 

@@ -33,6 +33,16 @@ pub enum Fault {
     NotChange,
 }
 
+impl Fault {
+    // Whether its message has the word that it is about.
+    fn has_word(self) -> bool {
+        matches!(
+            self,
+            Fault::NotUnits | Fault::ManyUnits | Fault::NotHour | Fault::Backward | Fault::Late(_)
+        )
+    }
+}
+
 // A fault, with its line, counted from 1, and the word that it is about, empty where it is about none.
 #[derive(Drop)]
 pub struct Mistake {
@@ -92,9 +102,10 @@ fn after(fault: Fault, word: &str) -> &'static str {
 impl fmt::Display for Mistake {
     fn fmt<W: fmt::Write>(&self, f: &mut fmt::Formatter<W>) -> fmt::Result {
         let line = self.line;
-        let word = match std::str::from_utf8(self.found.as_slice()) {
-            Ok(text) => text,
-            Err(_) => "?",
+        let word = if self.fault.has_word() {
+            std::str::from_utf8(self.found.as_slice()).unwrap_or("?")
+        } else {
+            ""
         };
         let before = before(self.fault, word);
         let after = after(self.fault, word);
