@@ -1,9 +1,9 @@
 // Times the planning of nights and the checking of their sheets: what was found goes to standard output, the times to standard error.
 #![tactic(auto)]
 
-use console::Fault;
 use console::nights::{Form, night_from};
-use console::words::given;
+use console::words::Words;
+use console::{About, Fault, program};
 use level::{length_needed, plan_night};
 use night::night::Night;
 use sheet_writer::planned::{plan_sheet, sheet_room};
@@ -23,13 +23,6 @@ const SAMPLES: usize = 201;
 
 const CALLS: usize = 4;
 
-// What is timed.
-#[derive(Clone, Copy)]
-enum Call {
-    Plan,
-    Check,
-}
-
 // A night, its sheet, and the memory that a planning call is lent.
 #[derive(Drop)]
 struct Lane {
@@ -40,6 +33,7 @@ struct Lane {
 }
 
 impl Lane {
+    // What a planning call is lent, as `change::evening` lends it: one function for both could only hand out three vectors.
     fn new(heap: Global, night: Night) -> Result<Lane, AllocError> {
         let need = length_needed(&night);
         let plan = vec![in heap; 0u64; need]?;
@@ -53,35 +47,39 @@ impl Lane {
         })
     }
 
-    fn run(&mut self, call: Call) {
-        match call {
-            Call::Plan => {
-                let _ = plan_night(&self.night, &mut self.plan, &mut self.work);
-            }
-            Call::Check => {
-                let _ = sheet::check(&self.night, self.sheet.as_slice());
-            }
-        }
+    // Plans the night.
+    fn plan(&mut self) {
+        let _ = plan_night(&self.night, &mut self.plan, &mut self.work);
     }
 
-    // The time of a call, in nanoseconds, from a row of them.
-    fn sample(&mut self, rt: &HostRuntime, call: Call) -> Result<u128, Fault> {
-        let start = Instant::now(rt)?;
-        for _ in 0..CALLS {
-            self.run(call);
-        }
-        Ok(start.elapsed(rt)?.as_nanos() / CALLS as u128)
+    // Checks its sheet.
+    fn check(&mut self) {
+        let _ = sheet::check(&self.night, self.sheet.as_slice());
     }
+}
 
-    // The median time of a call, in nanoseconds.
-    fn time(&mut self, rt: &HostRuntime, call: Call) -> Result<u128, Fault> {
-        let mut all = Vec::new(rt.alloc());
-        for _ in 0..SAMPLES {
-            all.push(self.sample(rt, call)?)?;
-        }
-        all.sort()?;
-        Ok(all.get(all.len() / 2).copied().unwrap_or(0))
+// The time of a call, in nanoseconds, from a row of them.
+fn sample<F: FnMut()>(rt: &HostRuntime, call: &mut F) -> Result<u128, Fault>
+    requires { F.IsAlwaysCallable call.old }
+    ensures { F.IsAlwaysCallable call.new }
+{
+    let start = Instant::now(rt)?;
+    for _ in 0..CALLS {
+        call();
     }
+    Ok(start.elapsed(rt)?.as_nanos() / CALLS as u128)
+}
+
+// The median time of a call, in nanoseconds.
+fn time<F: FnMut()>(rt: &HostRuntime, mut call: F) -> Result<u128, Fault>
+    requires { F.IsAlwaysCallable call }
+{
+    let mut all = Vec::new(rt.alloc());
+    for _ in 0..SAMPLES {
+        all.push(sample(rt, &mut call)?)?;
+    }
+    all.sort()?;
+    Ok(all.get(all.len() / 2).copied().unwrap_or(0))
 }
 
 // Plans the night in a file, and prints what was found and how long it takes.
@@ -100,26 +98,27 @@ fn race(rt: &HostRuntime, name: &str) -> Result<(), Fault> {
     println!(rt;
         "{name} hours {hours} tasks {tasks} groups {groups} flows {flows} highest {highest}"
     )?;
-    let planning = lane.time(rt, Call::Plan)?;
-    let checking = lane.time(rt, Call::Check)?;
+    let planning = time(rt, || lane.plan())?;
+    let checking = time(rt, || lane.check())?;
     eprintln!(rt; "{name} plan {planning} check {checking}")?;
     Ok(())
 }
 
-fn run(rt: &HostRuntime) -> Result<(), Fault> {
-    let words = given(rt, &["--help"], &[])?;
-    if words.has("--help") {
-        println!(rt; "{HELP}")?;
-        return Ok(());
-    }
-    for i in 0..words.count() {
-        if let Some(name) = words.plain(i) {
-            race(rt, name)?;
-        }
+const ABOUT: About = About {
+    name: "bench",
+    version: "1.0.0",
+    help: HELP,
+    switches: &["--help"],
+    options: &[],
+};
+
+fn run(rt: &HostRuntime, words: &Words) -> Result<(), Fault> {
+    for name in words.all() {
+        race(rt, name.as_str())?;
     }
     Ok(())
 }
 
 fn main(rt: HostRuntime) -> ExitCode {
-    console::status(console::report(&rt, "bench", run(&rt)))
+    program(&rt, ABOUT, |words| run(&rt, words))
 }

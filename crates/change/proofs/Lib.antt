@@ -1,5 +1,3 @@
-pub mod Rows
 pub mod Growth
-pub mod Soundness
 pub mod Applied
 pub mod Evenings

@@ -1,5 +1,5 @@
 -- What changes do to the tasks of a night, one after another. Assumes nothing: these are definitions.
-use Rattle.std.specs.Prelude.{◌≡◌, ℕ, ◌+◌, ◌<◌, ◌≤◌, Bool, true, false, List, [], ◌∷◌, ◌++◌, length, get_or, take, fold, slice_index_or, slice_set}
+use Rattle.std.specs.Prelude.{◌≡◌, ℕ, ◌+◌, ◌<◌, ◌≤◌, List, [], ◌∷◌, ◌++◌, length, get_or, take, fold, slice_index_or, slice_set}
 use Rattle.std.specs.List.{remove}
 use Rattle.night.specs.declared.task.Task.{Task}
 use Rattle.fraction.specs.Limits.{max_tasks, max_units}
@@ -19,11 +19,6 @@ abbrev pub after : List Task → Change → List Task
 after ts (Comes t) = ts ++ t ∷ []
 after ts (Goes j) = remove ts j
 after ts (More j u) = slice_set ts j (record { units = units ts j + u; hours = (get_or ts j blank_task).hours })
-
--- what trying the change c of the tasks ts leaves: the changed tasks where it can be made, else the tasks as they were
-abbrev pub Tried : ℕ → List Task → Change → List Task → Bool → Type 0
-Tried n ts c us true = Possible n ts c × (us ≡ after ts c)
-Tried n ts c us false = (Possible n ts c → ⊥) × (us ≡ ts)
 
 -- the tasks after a row of changes
 abbrev pub after_row : List Task → List Change → List Task

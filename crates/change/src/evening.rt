@@ -19,7 +19,7 @@ pub struct Evening {
     pub planned: Planned,
     // by task and hour, in rows of 96: the amounts, over the denominator of the level of the task's group
     pub amounts: Vec<u64>,
-    // the sheet, in its first bytes, as many as `planned` says
+    // the sheet, in its first bytes, as many as `planned` says; not cut to them, since the promise speaks of all bytes that were lent
     pub sheet: Vec<u8>,
 }
 
@@ -32,13 +32,11 @@ pub fn prepare(heap: Global, night: &Night, row: &[Change]) -> Result<Evening, R
     let mut amounts = vec![in heap; 0u64; need]?;
     let mut work = vec![in heap; 0u64; need]?;
     let mut sheet = vec![in heap; 0u8; sheet_room(&changed)]?;
-    match plan_sheet(&changed, &mut amounts, &mut work, &mut sheet) {
-        Ok(planned) => Ok(Evening {
-            night: changed,
-            planned,
-            amounts,
-            sheet,
-        }),
-        Err(_) => unreachable(),
-    }
+    let planned = plan_sheet(&changed, &mut amounts, &mut work, &mut sheet).unwrap();
+    Ok(Evening {
+        night: changed,
+        planned,
+        amounts,
+        sheet,
+    })
 }

@@ -1,7 +1,7 @@
 // What can change in a night.
 use night::task::Task;
 
-#[derive(Clone, Copy)]
+#[derive(Clone, Copy, PartialEq, Eq, Debug)]
 pub enum Change {
     // a task comes, with its units and hours
     Comes(Task),

@@ -1,8 +1,9 @@
 // Why a row of changes is refused.
 ghost use Rattle.std.specs.Prelude.{◌≡◌};
-ghost use Rattle.change.specs.Changed.{code};
+ghost use Rattle.change.specs.Changed.{code as refusal_code};
 ghost use Rattle.change.specs.declared.refusal.Refusal.TheVariants.{NoMemory};
 
+use refusals::Numbered;
 use std::alloc::{AllocError, AllocFailed};
 
 #[derive(Clone, Copy, PartialEq, Eq, Debug)]
@@ -13,21 +14,17 @@ pub enum Refusal {
     NoMemory,
 }
 
-impl Refusal {
-    // The number of the refusal.
-    pub fn number(self) -> usize
-        ensures { result ≡ (code self).0 }
-    {
+impl Numbered for Refusal {
+    ghost code = { refusal_code };
+
+    fn number(self) -> usize {
         match self {
             Refusal::Impossible(_) => 6,
             Refusal::NoMemory => 11,
         }
     }
 
-    // The place of the refusal.
-    pub fn place(self) -> usize
-        ensures { result ≡ (code self).1 }
-    {
+    fn place(self) -> usize {
         match self {
             Refusal::Impossible(i) => i,
             Refusal::NoMemory => 0,

@@ -2,8 +2,8 @@
 #![tactic(auto)]
 
 use console::nights::{Form, night_from};
-use console::words::given;
-use console::{Fault, read_input};
+use console::words::Words;
+use console::{About, Fault, program, read_input, refuse, usage};
 use lines::UnevenLine;
 use sheet::refusal::Refusal;
 use std::process::ExitCode;
@@ -24,10 +24,7 @@ Example: check examples/c.night c.sheet";
 
 fn verdict(rt: &HostRuntime, r: Result<(), Refusal>) -> Result<(), Fault> {
     match r {
-        Ok(()) => {
-            println!(rt; "accepted")?;
-            Ok(())
-        }
+        Ok(()) => Ok(println!(rt; "accepted")?),
         Err(Refusal::Uneven(task, done, less)) => {
             let line = UnevenLine {
                 task: task as u64,
@@ -37,33 +34,27 @@ fn verdict(rt: &HostRuntime, r: Result<(), Refusal>) -> Result<(), Fault> {
             println!(rt; "{line}")?;
             Err(Fault::Refused)
         }
-        Err(e) => Err(console::refuse(rt, e.number(), e.place())?),
+        Err(e) => Err(refuse(rt, e)?),
     }
 }
 
-fn run(rt: &HostRuntime) -> Result<(), Fault> {
-    let words = given(rt, &["--help", "--version", "--text"], &[])?;
-    if words.has("--help") {
-        println!(rt; "{HELP}")?;
-        return Ok(());
-    }
-    if words.has("--version") {
-        println!(rt; "check 1.0.0")?;
-        return Ok(());
-    }
+const ABOUT: About = About {
+    name: "check",
+    version: "1.0.0",
+    help: HELP,
+    switches: &["--help", "--version", "--text"],
+    options: &[],
+};
+
+fn run(rt: &HostRuntime, words: &Words) -> Result<(), Fault> {
     let (Some(night), Some(sheet)) = (words.plain(0), words.plain(1)) else {
-        return Err(console::usage(rt, "wanted: check NIGHT SHEET")?);
+        return Err(usage(rt, "wanted: check NIGHT SHEET")?);
     };
-    let form = if words.has("--text") {
-        Form::Text
-    } else {
-        Form::Bytes
-    };
-    let night = night_from(rt, night, form)?;
+    let night = night_from(rt, night, Form::given(words))?;
     let bytes = read_input(rt, sheet)?;
     verdict(rt, sheet::check(&night, bytes.as_slice()))
 }
 
 fn main(rt: HostRuntime) -> ExitCode {
-    console::status(console::report(&rt, "check", run(&rt)))
+    program(&rt, ABOUT, |words| run(&rt, words))
 }

@@ -1,8 +1,11 @@
 // Nights and changes from files.
+ghost use Rattle.console.specs.Form.{AsksFor};
+
+use super::words::Words;
 use super::{Fault, read_input, refuse};
 use change::kinds::Change;
 use night::night::Night;
-use std::io;
+use std::alloc::AllocError;
 use text::changes::read_changes;
 use text::reader::{TextNight, read_text};
 use text::unread::ReadError;
@@ -14,10 +17,23 @@ pub enum Form {
     Text,
 }
 
+impl Form {
+    // The form that the words name: text after `--text`, else bytes.
+    pub fn given(words: &Words) -> Form
+        ensures { AsksFor words.now.switches.items result }
+    {
+        if words.has("--text") {
+            Form::Text
+        } else {
+            Form::Bytes
+        }
+    }
+}
+
 // Says on standard error what is wrong with a text, a line for each mistake.
-fn blame(rt: &HostRuntime, name: &str, e: ReadError) -> Result<Fault, io::Error> {
+fn blame(rt: &HostRuntime, name: &str, e: ReadError) -> Result<Fault, Fault> {
     match e {
-        ReadError::Memory => Ok(Fault::System(std::alloc::AllocError.into())),
+        ReadError::Memory => Ok(AllocError.into()),
         ReadError::Mistakes(all) => {
             for mistake in all.iter() {
                 eprintln!(rt; "{name}: {mistake}")?;
@@ -32,17 +48,14 @@ pub fn named_night_from(rt: &HostRuntime, name: &str, form: Form) -> Result<Text
     let heap = rt.alloc();
     let bytes = read_input(rt, name)?;
     match form {
-        Form::Bytes => match night::read(heap, bytes.as_slice()) {
-            Ok(night) => Ok(TextNight {
+        Form::Bytes => {
+            let night = night::read(heap, bytes.as_slice()).try_map_err(|e| refuse(rt, e))?;
+            Ok(TextNight {
                 night,
                 names: Vec::new(heap),
-            }),
-            Err(e) => Err(refuse(rt, e.number(), e.place())?),
-        },
-        Form::Text => match read_text(heap, bytes.as_slice()) {
-            Ok(read) => Ok(read),
-            Err(e) => Err(blame(rt, name, e)?),
-        },
+            })
+        }
+        Form::Text => read_text(heap, bytes.as_slice()).try_map_err(|e| blame(rt, name, e)),
     }
 }
 
@@ -54,8 +67,5 @@ pub fn night_from(rt: &HostRuntime, name: &str, form: Form) -> Result<Night, Fau
 // The row of changes in a file of text.
 pub fn changes_from(rt: &HostRuntime, name: &str) -> Result<Vec<Change>, Fault> {
     let bytes = read_input(rt, name)?;
-    match read_changes(rt.alloc(), bytes.as_slice()) {
-        Ok(row) => Ok(row),
-        Err(e) => Err(blame(rt, name, e)?),
-    }
+    read_changes(rt.alloc(), bytes.as_slice()).try_map_err(|e| blame(rt, name, e))
 }

@@ -2,12 +2,11 @@
 #![tactic(auto)]
 
 use console::nights::{Form, named_night_from};
-use console::words::{Words, given};
-use console::{Fault, read_input, write_output};
+use console::words::Words;
+use console::{About, Fault, program, read_input, usage, write_output};
 use lines::RefusedLine;
-use std::alloc::AllocError;
 use std::process::ExitCode;
-use text::writer::{WriteError, write_text};
+use text::writer::write_text;
 
 const HELP: &str = "convert --to-bytes TEXT NIGHT
 convert --to-text NIGHT TEXT
@@ -31,51 +30,32 @@ fn bytes_of(rt: &HostRuntime, name: &str) -> Result<Vec<u8>, Fault> {
 fn text_of(rt: &HostRuntime, name: &str) -> Result<String, Fault> {
     let heap = rt.alloc();
     let bytes = read_input(rt, name)?;
-    let night = match night::read(heap, bytes.as_slice()) {
-        Ok(night) => night,
-        Err(e) => {
-            let line = RefusedLine {
-                number: e.number() as u64,
-                place: e.place() as u64,
-            };
-            return Err(Fault::Usage(line.to_string(heap)?));
-        }
-    };
+    let night = night::read(heap, bytes.as_slice()).map_err(|e| Fault::NotNight(RefusedLine::of(
+        e,
+    )))?;
     let nameless: Vec<String> = Vec::new(heap);
-    match write_text(heap, &night, nameless.as_slice()) {
-        Ok(text) => Ok(text),
-        Err(WriteError::Memory) => Err(AllocError.into()),
-        Err(WriteError::Name(_)) => Err(console::usage(rt, "a name can't be written")?),
-    }
+    Ok(write_text(heap, &night, nameless.as_slice())?)
 }
 
-fn run_with(rt: &HostRuntime, words: &Words) -> Result<(), Fault> {
-    let (Some(from), Some(to)) = (words.plain(0), words.plain(1)) else {
-        return Err(console::usage(rt, "wanted: two files")?);
+const ABOUT: About = About {
+    name: "convert",
+    version: "1.0.0",
+    help: HELP,
+    switches: &["--help", "--version", "--to-bytes", "--to-text"],
+    options: &[],
+};
+
+fn run(rt: &HostRuntime, words: &Words) -> Result<(), Fault> {
+    let (Some(from), Some(to), None) = (words.plain(0), words.plain(1), words.plain(2)) else {
+        return Err(usage(rt, "wanted: two files")?);
     };
     match (words.has("--to-bytes"), words.has("--to-text")) {
         (true, false) => write_output(rt, to, bytes_of(rt, from)?.as_slice()),
         (false, true) => write_output(rt, to, text_of(rt, from)?.as_bytes()),
-        _ => Err(console::usage(rt, "wanted: --to-bytes or --to-text")?),
+        _ => Err(usage(rt, "wanted: --to-bytes or --to-text")?),
     }
-}
-
-fn run(rt: &HostRuntime) -> Result<(), Fault> {
-    let words = given(rt, &["--help", "--version", "--to-bytes", "--to-text"], &[])?;
-    if words.has("--help") {
-        println!(rt; "{HELP}")?;
-        return Ok(());
-    }
-    if words.has("--version") {
-        println!(rt; "convert 1.0.0")?;
-        return Ok(());
-    }
-    if words.count() > 2 {
-        return Err(console::usage(rt, "wanted: two files")?);
-    }
-    run_with(rt, &words)
 }
 
 fn main(rt: HostRuntime) -> ExitCode {
-    console::status(console::report(&rt, "convert", run(&rt)))
+    program(&rt, ABOUT, |words| run(&rt, words))
 }

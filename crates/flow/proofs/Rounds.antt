@@ -1,6 +1,5 @@
 -- One round of a look adds a layer.
-use Rattle.std.proofs.Common.{◌≡◌, ℕ, ◌+◌, ◌<◌, ◌≤◌, true, false, not, ◌&&◌, ltb, ◌≢◌, List, length, get_or, set, sym, ap, ◌∙◌, inl, inr, arith, get_or-set_other, get_or-set_same}
-use Rattle.std.proofs.lemmas.Bool.Decides.{nat_tests}
+use Rattle.std.proofs.Common.{◌≡◌, ℕ, ◌+◌, ◌<◌, ◌≤◌, true, false, not, ◌&&◌, ◌≢◌, List, length, get_or, set, sym, ap, ◌∙◌, inl, inr, arith, get_or-set_other, get_or-set_same}
 use Rattle.std.proofs.lemmas.Bool.{cases_Bool, cases_eq}
 use Rattle.fraction.specs.Sum.{size, any, both}
 use Rattle.fraction.proofs.Sums.{any_some, size_more, part_same_test}
@@ -9,7 +8,7 @@ use Rattle.sets.specs.Hours.{has, blank}
 use Rattle.sets.proofs.Members.{none_any}
 use Rattle.flow.specs.declared.net.Net.{Net}
 use Rattle.flow.specs.Layer.{Passes}
-use Rattle.flow.specs.Lent.{permits, marked, room, layer, Layered, Spread, Stuck}
+use Rattle.flow.specs.Lent.{permits, marked, layer, Layered, Spread, Stuck}
 
 -- a set in its place, and the others beside it
 pub layer_at : (layers : List Hours) (k : ℕ) (x : Hours) → k < length layers → (s : ℕ) → layer (set layers k x) k s ≡ has x s
@@ -17,24 +16,6 @@ layer_at layers k x l s = ap (λ h. has h s) (get_or-set_same layers k x blank l
 
 pub layer_other : (layers : List Hours) (k : ℕ) (x : Hours) (d : ℕ) → d ≢ k → (s : ℕ) → layer (set layers k x) d s ≡ layer layers d s
 layer_other layers k x d ne s = ap (λ h. has h s) (get_or-set_other layers k d x blank ne)
-
--- the hours with room are layer 0
-pub layered_first :
-    (m : ℕ) (may : List Hours) (net : Net) (layers : List Hours) (x : Hours) → 0 < length layers →
-    ((s : ℕ) → has x s ≡ ltb 0 (room net s)) → ((s : ℕ) → has x s ≡ true → s < 96) →
-    Layered m may net (set layers 0 x) 0
-layered_first m may net layers x l is low =
-    record {
-      ways =
-          record {
-            first = λ s ls h. (let e = is s in let a = layer_at layers 0 x l s in grind (arith, nat_tests));
-            room = λ s ls h. (let e = is s in let a = layer_at layers 0 x l s in grind (arith, nat_tests));
-            up = λ d ld. absurd (omega arith);
-            from = λ d ld. absurd (omega arith);
-          };
-      low = λ d ld s h.
-          (let z : d ≡ 0 = omega arith in low s (sym (layer_at layers 0 x l s) ∙ (rw z at h)));
-    }
 
 module _ {m : ℕ} {may : List Hours} {net : Net} {layers : List Hours} {k : ℕ} {next : Hours}
     (w : Layered m may net layers k) (sp : Spread m may net (get_or layers k blank) next)

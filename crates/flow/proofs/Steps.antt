@@ -2,9 +2,10 @@
 use Rattle.std.proofs.Common.{◌≡◌, ℕ, ◌+◌, ◌*◌, ◌<◌, ◌≤◌, Bool, true, List, get_or, sym, ap, ◌∙◌, inl, inr, arith}
 use Rattle.std.proofs.lemmas.Bool.{cases_eq, both_ways}
 use Rattle.fraction.proofs.Sums.{sum_same, sum_update, sum_at}
+use Rattle.sets.specs.declared.hours.Hours.{Hours}
 use Rattle.flow.specs.declared.net.Net.{Net}
 use Rattle.flow.specs.Flow.{row, column}
-use Rattle.flow.specs.Lent.{flow, left, room, Marks, Grew, Shipped, Shifted, Sound, Steady}
+use Rattle.flow.specs.Lent.{flow, left, room, Marks, Grew, Shipped, Shifted, Sound, Shut, Steady}
 
 module _ {net : Net} {work : List ℕ} {net' : Net} {work' : List ℕ} {j s d : ℕ} (ls : s < 96) (g : Grew net work net' work' j s d) where
   pub grew_row : row 96 (flow net' work') j ≡ row 96 (flow net work) j + d
@@ -35,6 +36,43 @@ module _ {net : Net} {work : List ℕ} {net' : Net} {work' : List ℕ} {j s d : 
   pub grew_rest : (m : ℕ) → j < m → (k : ℕ) → m * 96 ≤ k → get_or work' k 0 ≡ get_or work k 0
   grew_rest m lj k lk = g.rest k (λ e. omega arith)
 
+-- a sound state stays sound where a cell that may be used grows, and where one shrinks
+module _
+    {m : ℕ} {may : ℕ → ℕ → Bool} {net : Net} {work : List ℕ} {net' : Net} {work' : List ℕ} {j s d : ℕ} (lj : j < m) (ls : s < 96)
+    (marks : Marks m net.marks work → Marks m net'.marks work') (w : Sound m may net work) where
+  pub grew_sound : Grew net work net' work' j s d → may j s ≡ true → Sound m may net' work'
+  grew_sound g can =
+      record {
+        only = λ i t li lt h. g.cells i t lt (λ a b. both_ways _ (rw (a, b) at h) can) ∙ w.only i t li lt h;
+        marks = marks w.marks;
+        fits = λ t lt. omega (arith, w.fits t lt, grew_balance ls g m lj t lt);
+      }
+
+  pub fell_sound : Grew net' work' net work j s d → Sound m may net' work'
+  fell_sound g =
+      record {
+        only = λ i t li lt h.
+            (let o = w.only i t li lt h in
+            elim (cases_eq i j) [
+              | inl ei ↦ elim (cases_eq t s) [
+                | inl et ↦ (let a = g.at in let o' = rw (ei, et) at o in rw (ei, et) (omega (arith, a, o')))
+                | inr nt ↦ omega (arith, o, g.cells i t lt (λ x y. nt y))
+              ]
+              | inr ni ↦ omega (arith, o, g.cells i t lt (λ x y. ni x))
+            ]);
+        marks = marks w.marks;
+        fits = λ t lt. omega (arith, w.fits t lt, grew_balance ls g m lj t lt);
+      }
+
+-- an hour that bears nothing stays so
+module _ {m : ℕ} {hours : Hours} {net : Net} {work : List ℕ} {net' : Net} {work' : List ℕ} {j s d : ℕ} (lj : j < m) (ls : s < 96)
+    (w : Shut m hours net work) where
+  pub grew_shut : Grew net work net' work' j s d → Shut m hours net' work'
+  grew_shut g = record { none = λ t lt out. grew_balance ls g m lj t lt ∙ w.none t lt out }
+
+  pub fell_shut : Grew net' work' net work j s d → Shut m hours net' work'
+  fell_shut g = record { none = λ t lt out. sym (grew_balance ls g m lj t lt) ∙ w.none t lt out }
+
 -- a cell is at most what its hour bears
 pub cell_column : (m : ℕ) (net : Net) (work : List ℕ) (j s : ℕ) → j < m → flow net work j s ≤ column m (flow net work) s
 cell_column m net work j s lj = sum_at m (λ i. flow net work i s) j lj
@@ -64,15 +102,6 @@ module _
         rest = grew_rest ls g.grew m lj;
       }
 
-  pub shipped_sound :
-      (may : ℕ → ℕ → Bool) → may j s ≡ true → Sound m may net work → (Marks m net.marks work → Marks m net'.marks work') → Sound m may net' work'
-  shipped_sound may can w marks =
-      record {
-        only = λ i t li lt h. g.grew.cells i t lt (λ a b. both_ways _ (rw (a, b) at h) can) ∙ w.only i t li lt h;
-        marks = marks w.marks;
-        fits = λ t lt. omega (arith, w.fits t lt, shipped_steady.columns t lt);
-      }
-
 module _
     {net : Net} {work : List ℕ} {net' : Net} {work' : List ℕ} {j t u d : ℕ} (m : ℕ) (lj : j < m) (lt : t < 96) (lu : u < 96)
     (g : Shifted net work net' work' j t u d) where
@@ -89,22 +118,4 @@ module _
         rows = λ i li. (let l : left net' i ≡ left net i = ap (λ x. get_or x i 0) g.lefts in omega (arith, l, shifted_rows i li));
         columns = λ s ls. omega (arith, grew_balance lt g.fell m lj s ls, grew_balance lu g.grew m lj s ls);
         rest = λ k lk. omega (arith, grew_rest lt g.fell m lj k lk, grew_rest lu g.grew m lj k lk);
-      }
-
-  pub shifted_sound :
-      (may : ℕ → ℕ → Bool) → may j u ≡ true → Sound m may net work → (Marks m net.marks work → Marks m net'.marks work') → Sound m may net' work'
-  shifted_sound may can w marks =
-      record {
-        only = λ i s li ls h.
-            (let b = g.grew.cells i s ls (λ a b. both_ways _ (rw (a, b) at h) can) in
-            let o = w.only i s li ls h in
-            elim (cases_eq i j) [
-              | inl ei ↦ elim (cases_eq s t) [
-                | inl es ↦ (let a = g.fell.at in let b' = rw (ei, es) at b in let o' = rw (ei, es) at o in rw (ei, es) (omega (arith, a, b', o')))
-                | inr ns ↦ omega (arith, b, o, g.fell.cells i s ls (λ x y. ns y))
-              ]
-              | inr ni ↦ omega (arith, b, o, g.fell.cells i s ls (λ x y. ni x))
-            ]);
-        marks = marks w.marks;
-        fits = λ s ls. omega (arith, w.fits s ls, shifted_steady.columns s ls);
       }

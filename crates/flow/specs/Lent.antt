@@ -72,6 +72,10 @@ pub record Sound (m : ℕ) (may : ℕ → ℕ → Bool) (net : Net) (work : List
   pub marks : Marks m net.marks work
   pub fits : (s : ℕ) → s < 96 → room net s + column m (flow net work) s < 2 ^ 64
 
+-- an hour outside of the set has no room, and bears nothing
+pub record Shut (m : ℕ) (hours : Hours) (net : Net) (work : List ℕ) : Type 0 where
+  pub none : (s : ℕ) → s < 96 → has hours s ≡ false → room net s + column m (flow net work) s ≡ 0
+
 -- from one state to another: what is shipped and left of a task, what an hour bears and has room for, and the memory behind
 -- the rows, are the same
 pub record Steady (m : ℕ) (net : Net) (work : List ℕ) (net' : Net) (work' : List ℕ) : Type 0 where

@@ -1,4 +1,5 @@
 pub mod Cut
+pub mod Filling
 pub mod Flow
 pub mod Layer
 pub mod Lent

@@ -1,12 +1,11 @@
 -- What a look at the layers tells, case by case. Assumes nothing: these are definitions.
-use Rattle.std.specs.Prelude.{◌≡◌, ℕ, ◌<◌, ◌≤◌, true, List, slice_index_or}
+use Rattle.std.specs.Prelude.{◌≡◌, ℕ, ◌<◌, ◌≤◌, true, List, slice_index_or, MatchOption}
+use Rattle.std.specs.declared.ops.ControlFlow.{ControlFlow}
+use Rattle.std.specs.declared.ops.ControlFlow.TheVariants.{Continue, Break}
 use Rattle.sets.specs.declared.hours.Hours.{Hours}
 use Rattle.sets.specs.Hours.{blank}
 use Rattle.flow.specs.declared.net.Net.{Net}
-use Rattle.flow.specs.declared.layer.Round.{Round}
-use Rattle.flow.specs.declared.layer.Round.TheVariants.{Waits, Next}
 use Rattle.flow.specs.declared.layer.Sight.{Sight}
-use Rattle.flow.specs.declared.layer.Sight.TheVariants.{Way, End}
 use Rattle.flow.specs.Lent.{left, touches, Spread, Stuck, Layered}
 
 -- task j has something left, and may use an hour of the set
@@ -16,11 +15,13 @@ pub record Waiting (m : ℕ) (may : List Hours) (net : Net) (from : Hours) (j : 
   pub near : touches may j from ≡ true
 
 -- one round of a look
-abbrev pub Rounds : ℕ → List Hours → Net → Hours → Round → Type 0
-Rounds m may net from (Waits j) = Waiting m may net from j
-Rounds m may net from (Next next) = Spread m may net from next
+abbrev pub Rounds : ℕ → List Hours → Net → Hours → ControlFlow ℕ Hours → Type 0
+Rounds m may net from (Break j) = Waiting m may net from j
+Rounds m may net from (Continue next) = Spread m may net from next
 
--- a whole look: layers up to d, where a task waits, or none does and nothing more can be reached
+-- a whole look: layers up to a depth, where a task waits, or none does and nothing more can be reached
 abbrev pub Seen : ℕ → List Hours → Net → List Hours → Sight → Type 0
-Seen m may net layers (Way d j) = (d ≤ 96) × Layered m may net layers d × Waiting m may net (slice_index_or layers d blank) j
-Seen m may net layers (End d) = (d ≤ 96) × Layered m may net layers d × Stuck m may net (slice_index_or layers d blank)
+Seen m may net layers s =
+    (s.depth ≤ 96)
+    × Layered m may net layers s.depth
+    × MatchOption s.task (Stuck m may net (slice_index_or layers s.depth blank)) (Waiting m may net (slice_index_or layers s.depth blank))

@@ -5,9 +5,8 @@ ghost use Rattle.sets.specs.Hours.{has};
 ghost use Rattle.flow.specs.Lent.{permits, flow, room, within, fitting, Empty};
 ghost use Rattle.flow.specs.Outcome.{Outcome};
 
+use crate::filling::Filling;
 use crate::net::{Filled, Net};
-use crate::pack::pack;
-use crate::settle::settle;
 use sets::hours::Hours;
 
 // The room of each hour before anything is shipped: its capacity, if it is in the set.
@@ -17,10 +16,8 @@ fn ready(hours: Hours, capacity: &[u64; 96], net: &mut Net)
     ensures fits { (s : ℕ) → room net.new s < 2 ^ 64 }
 {
     net.room = [0; 96];
-    let mut rest = hours;
-    'members: while let Some(s) = rest.lowest() {
+    for s in hours {
         net.room[s] = capacity[s];
-        rest = rest.remove(s);
     }
 }
 
@@ -30,16 +27,15 @@ fn clear(supply: &[u64], net: &mut Net)
     ensures empty { Empty (length supply.now) supply.now net.new }
     ensures rooms { net.new.room ≡ net.old.room }
 {
-    let none = Hours::none();
-    'tasks: for j in 0..supply.len() {
-        net.left[j] = supply[j];
-        net.marks[j] = none;
-    }
+    let tasks = supply.len();
+    net.left[..tasks].copy_from_slice(supply);
+    net.marks[..tasks].fill(Hours::none());
 }
 
 // Ships as much as fits of the supplies of tasks, each into the hours in which it may be done: hours outside of the set
 // bear nothing, the others what the array says. The flow is in `work`, in rows of 96 cells, as far as `net.marks` has the
-// hour. It looks for ways to room at most once for each unit, and once more. Refused, with nothing changed, are more than 200 tasks, rows that are not one for each task, and too few cells.
+// hour. It looks for ways to room at most once for each unit, and once more. Refused, with nothing changed, are more than 200 tasks,
+// rows that are not one for each task, and too few cells. What it takes are parameters and no struct, since a caller lends each by itself.
 pub fn fill(
     may: &[Hours],
     supply: &[u64],
@@ -64,8 +60,14 @@ pub fn fill(
     let hours = hours.common(Hours::below(96));
     ready(hours, &capacity, net);
     clear(supply, net);
-    pack(may, net, work, hours);
-    let end = settle(may, hours, net, work);
+    let mut filling = Filling {
+        may,
+        hours,
+        net: &mut *net,
+        work: &mut *work,
+    };
+    filling.pack();
+    let end = filling.settle();
     net.looks = end.looks;
     Some(end.filled)
 }

@@ -5,6 +5,7 @@ mod cell;
 pub mod cut;
 mod drain;
 pub mod fill;
+mod filling;
 mod layer;
 pub mod net;
 mod order;

@@ -5,7 +5,7 @@ ghost use Rattle.flow.specs.Lent.{marked, needed};
 use sets::hours::Hours;
 
 // Scratch, which each call fills anew as far as it needs: the room in each hour, what is left of each task, the hours in which
-// each task has flow, and a count.
+// each task has flow, and a count. Arrays, since it is lent and nothing of a flow comes from the heap; they are public to whoever reads a flow.
 #[derive(Drop)]
 pub struct Net {
     pub room: [u64; 96],
@@ -40,7 +40,8 @@ pub fn cells(tasks: u8) -> usize
     tasks as usize * 96
 }
 
-// How a call ends: every task is shipped whole, or some are not, and these hours can still reach room.
+// How a call ends: every task is shipped whole, or some are not, and these hours can still reach room. It is no Option of a
+// set: the call answers None where it refuses, and a None within a Some would not say that all is shipped.
 #[derive(Clone, Copy, PartialEq, Eq, Debug)]
 pub enum Filled {
     Whole,

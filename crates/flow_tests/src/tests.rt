@@ -5,22 +5,14 @@ use sets::hours::Hours;
 use std::test::Fail;
 
 fn set(hours: &[usize]) -> Hours {
-    let mut all = Hours::none();
-    for s in hours {
-        all = all.insert(*s);
-    }
-    all
+    hours.iter().fold(Hours::none(), |all, s| all.insert(*s))
 }
 
-// What task j ships into hour s.
+// What task j ships into hour s. (`plan_tests` has the same few lines: a crate for them would be longer than they are.)
 fn shipped(net: &Net, work: &[u64], j: usize, s: usize) -> u64 {
-    if j >= 200 || s >= 96 {
-        return 0;
-    }
-    if net.marks[j].contains(s) && j * 96 + s < work.len() {
-        work[j * 96 + s]
-    } else {
-        0
+    match (net.marks.get(j), work.chunks_exact(96).nth(j)) {
+        (Some(marks), Some(row)) if marks.contains(s) => row.get(s).copied().unwrap_or(0),
+        _ => 0,
     }
 }
 

@@ -8,7 +8,7 @@ pub const NUM_END: u64 = 0x8000_0000_0000;
 // Every denominator is below this.
 pub const DEN_END: u64 = 0x1_0000;
 
-#[derive(Clone, Copy)]
+#[derive(Clone, Copy, Debug, PartialEq, Eq)]
 pub struct Fraction {
     pub(crate) num: u64,
     pub(crate) den: u64,

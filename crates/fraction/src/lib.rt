@@ -7,6 +7,7 @@ mod order;
 mod range;
 mod reduce;
 mod shown;
+pub mod theorems;
 
 pub use exact::{DEN_END, Fraction, NUM_END};
 pub use limits::{MAX_HOURS, MAX_TASKS, MAX_UNITS};

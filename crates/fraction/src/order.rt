@@ -1,8 +1,12 @@
 // The order of fractions, exactly, by cross products.
-ghost use Rattle.std.specs.Prelude.{◌≡◌, ◌*◌, ◌<◌, ◌&&◌, ◌==◌};
-ghost use Rattle.fraction.specs.Fraction.{product_end, less_than, at_most, same_as};
+ghost use Rattle.std.specs.Prelude.{◌≡◌, ◌*◌, ◌<◌, refl};
+ghost use Rattle.std.specs.Ordering.{as_partial_cmp};
+ghost use Rattle.fraction.specs.Fraction.{product_end};
+ghost use Rattle.fraction.specs.Order.{fraction_cmp};
+ghost use Rattle.fraction.specs.OrderLaws.{fractions_total, fractions_partial, fractions_tie};
 
 use crate::exact::Fraction;
+use std::cmp::Ordering;
 
 // The numerator of a times the denominator of b.
 fn cross(a: Fraction, b: Fraction) -> u64
@@ -12,26 +16,26 @@ fn cross(a: Fraction, b: Fraction) -> u64
     a.num * b.den
 }
 
-impl Fraction {
-    // Whether this fraction is less than the other.
-    pub fn less(self, other: Fraction) -> bool
-        ensures { result ≡ less_than self.num self.den other.num other.den }
-    {
-        cross(self, other) < cross(other, self)
-    }
+impl Ord for Fraction {
+    ghost cmp = { fraction_cmp };
 
-    // Whether this fraction is at most the other.
-    pub fn at_most(self, other: Fraction) -> bool
-        ensures { result ≡ at_most self.num self.den other.num other.den }
-    {
-        cross(self, other) <= cross(other, self)
-    }
+    ghost total = { fractions_total };
 
-    // Whether both are the same number; in lowest terms, exactly if their parts are equal.
-    pub fn same(self, other: Fraction) -> bool
-        ensures value { result ≡ same_as self.num self.den other.num other.den }
-        ensures parts { result ≡ (self.num == other.num && self.den == other.den) }
-    {
-        self.num == other.num && self.den == other.den
+    ghost matches_partial_cmp = { λ x y. refl };
+
+    ghost matches_eq = { fractions_tie };
+
+    fn cmp(&self, other: &Fraction) -> Ordering {
+        cross(*self, *other).cmp(&cross(*other, *self))
+    }
+}
+
+impl PartialOrd for Fraction {
+    ghost partial_cmp = { as_partial_cmp fraction_cmp };
+
+    ghost laws = { fractions_partial };
+
+    fn partial_cmp(&self, other: &Fraction) -> Option<Ordering> {
+        Some(self.cmp(other))
     }
 }

@@ -4,7 +4,7 @@ ghost use Rattle.fraction.specs.Fraction.{num_end, fits, Greatest, Reduced};
 
 use crate::exact::{DEN_END, Fraction, NUM_END};
 
-// The greatest common divisor, by Euclid's algorithm; that of 0 and 0 is 0.
+// The greatest common divisor, by Euclid's algorithm, since std has none; that of 0 and 0 is 0.
 fn gcd(a: u64, b: u64) -> u64
     ensures { Greatest result a b }
 {
@@ -34,7 +34,7 @@ impl Fraction {
         })
     }
 
-    // The fraction n / 1; none if n passes the bound.
+    // The fraction n / 1; none if n passes the bound. A `TryFrom` would give an error type with the one value that None is here.
     pub fn whole(n: u64) -> Option<Fraction>
         ensures test { is_some result ≡ nat_lt n num_end }
         ensures value { IfSome result (λ f. (f.num ≡ n) × (f.den ≡ 1)) }

@@ -2,7 +2,7 @@
 use Rattle.std.proofs.Common.{◌≡◌, ℕ, ◌<◌, ◌≤◌, cond, List, length, get_or, refl, ◌∙◌, arith}
 use Rattle.std.proofs.lemmas.Bool.Decides.{nat_tests}
 use Rattle.fraction.specs.Sum.{any}
-use Rattle.fraction.proofs.Sums.{any_hasn't}
+use Rattle.fraction.proofs.Sums.{any_some, any_hasn't}
 use Rattle.night.specs.declared.task.Task.{Task}
 use Rattle.fraction.specs.declared.exact.Fraction.{Fraction}
 use Rattle.sets.specs.declared.hours.Hours.{Hours}
@@ -19,7 +19,7 @@ module _
   begin_some some plan =
       record {
         at = λ s. cond (any (length ts) (λ j. may ts j s)) 95 96;
-        stack = start (num levels) (den levels) r.some some (λ j l. ej j (omega (arith, r.few))) (λ s l. refl);
+        stack = start (num levels) (den levels) (λ j l. any_some 96 (may ts j) (r.some j l)) some (λ j l. ej j (omega (arith, r.few))) (λ s l. refl);
         amounts = amounts_none;
         sets = λ i l k s.
             let k' : 95 ≤ i = omega (arith, k (omega arith)) in

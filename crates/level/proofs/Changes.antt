@@ -1,11 +1,12 @@
 -- Changing the labels of tasks, one by one.
-use Rattle.std.proofs.Common.{◌≡◌, ℕ, ◌+◌, ◌-◌, ◌<◌, ◌≤◌, Bool, true, false, cond, not, ◌&&◌, eqb, List, length, sym, ap, ◌∙◌, inl, inr, arith}
+use Rattle.std.proofs.Common.{◌≡◌, ℕ, ◌+◌, ◌-◌, ◌<◌, ◌≤◌, Bool, true, false, cond, not, ◌&&◌, eqb, List, length, set, sym, ap, ◌∙◌, inl, inr, arith}
+use Rattle.std.proofs.lemmas.List.{get_or-set_same, get_or-set_other}
 use Rattle.std.proofs.lemmas.Bool.{cases_eq, cases_lt, cases_Bool}
 use Rattle.fraction.specs.Sum.{any, both, without}
 use Rattle.fraction.proofs.Sums.{any_some, any_has, any_none, any_hasn't}
 use Rattle.night.specs.declared.task.Task.{Task}
 use Rattle.night.specs.Task.{may}
-use Rattle.level.specs.Change.{Freed}
+use Rattle.level.specs.Change.{Freed, Moved}
 use Rattle.level.specs.Cut.{open_to}
 use Rattle.level.specs.Parts.{label, Ready}
 use Rattle.level.specs.Stack.{is}
@@ -56,3 +57,23 @@ freed_more ts top u j of of₁ of₂ w here there =
           ];
       rest = λ i l. there i (λ e. omega arith) ∙ w.rest i (omega arith);
     }
+
+module _ {a b from : ℕ} {of of' : List ℕ} (w : Moved a b from of of') where
+  -- labels of others are passed over
+  pub moved_past : (m : ℕ) → from ≤ m → ((k : ℕ) → from ≤ k → k < m → is (label of) a k ≡ false) → Moved a b m of of'
+  moved_past m le none =
+      record {
+        done = λ j l. elim (cases_lt j from) [ inl g ↦ w.done j g | inr g ↦ rw (none j g l) (w.rest j g) ];
+        rest = λ j l. w.rest j (omega arith);
+      }
+
+  -- one more is moved
+  pub moved_more : is (label of) a from ≡ true → from < length of' → Moved a b (from + 1) of (set of' from b)
+  moved_more y l =
+      record {
+        done = λ j g. elim (cases_eq j from) [
+          | inl e ↦ rw e (rw y (get_or-set_same of' from b 0 l))
+          | inr ne ↦ get_or-set_other of' from j b 0 ne ∙ w.done j (omega arith)
+        ];
+        rest = λ j g. get_or-set_other of' from j b 0 (λ e. omega arith) ∙ w.rest j (omega arith);
+      }

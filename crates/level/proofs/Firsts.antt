@@ -1,5 +1,6 @@
 -- The first number that passes a test.
-use Rattle.std.proofs.Common.{◌≡◌, ℕ, zero, suc, ◌+◌, ◌<◌, Bool, true, false, cond, not, ◌&&◌, ◌||◌, ltb, List, get_or, refl, inl, inr, add-one, arith}
+use Rattle.std.proofs.Common.{◌≡◌, ℕ, zero, suc, ◌+◌, ◌<◌, Bool, true, false, cond, not, ◌&&◌, ◌||◌, ltb, List, ◌∷◌, length, get_or, drop, ◌-◌, sym, refl, ap, ◌∙◌, inl, inr, add-one, arith}
+use Rattle.std.proofs.lemmas.List.{length-drop, get_or-drop, drop-drop}
 use Rattle.std.proofs.lemmas.Bool.{cases_Bool, cases_eq, lt-ltb, le-ltb}
 use Rattle.std.proofs.lemmas.Bool.Decides.{nat_tests}
 use Rattle.fraction.specs.declared.exact.Fraction.{Fraction}
@@ -71,3 +72,14 @@ module _ (k : ℕ) (hs : List Hours) (lv : List Fraction) (s : ℕ) where
       let e = first_none k (λ i. has (get_or hs i blank) s) h in
       let n : ltb k k ≡ false = le-ltb k k (omega arith) in
       rw e (rw n refl)
+
+-- the next item of a list of which those from g on are left
+pub rest_step :
+    {X : Type 0} (xs rest ys : List X) (g : ℕ) (y d : X) → rest ≡ drop g xs → rest ≡ y ∷ ys →
+    (g < length xs) × (get_or xs g d ≡ y) × (ys ≡ drop (g + 1) xs)
+rest_step xs rest ys g y d e s =
+    let t : y ∷ ys ≡ drop g xs = sym s ∙ e in
+    let long : length (y ∷ ys) ≡ length xs - g = ap length t ∙ length-drop g xs in
+    let here : get_or xs (g + 0) d ≡ y = sym (get_or-drop g xs 0 d) ∙ ap (λ v. get_or v 0 d) (sym t) in
+    let none : g + 0 ≡ g = omega arith in
+    (omega (arith, long), rw none at here, ap (drop 1) t ∙ drop-drop 1 g xs)

@@ -3,7 +3,7 @@ use Rattle.std.proofs.Common.{◌≡◌, ℕ, ◌*◌, ◌<◌, ◌≤◌, true,
 use Rattle.std.proofs.lemmas.Bool.{cases_lt, cases_Bool, eq-eqb, ne_eqb, lt-ltb, le-ltb}
 use Rattle.std.proofs.lemmas.Bool.Decides.{nat_tests}
 use Rattle.fraction.specs.declared.exact.Fraction.{Fraction}
-use Rattle.fraction.proofs.Sums.{any_some}
+use Rattle.fraction.proofs.Sums.{any_some, any_has}
 use Rattle.sets.specs.declared.hours.Hours.{Hours}
 use Rattle.night.specs.declared.night.Night.{Night}
 use Rattle.night.specs.declared.task.Task.{Task}
@@ -36,7 +36,7 @@ night_within night =
             light = λ j l. (night.each j l).0;
             some = λ j l.
                 (let r = any_some (hours_of night) (may (tasks_of night) j) (night.each j l).1 in
-                (r.0, omega (arith, r.1, night.short), r.2));
+                any_has 96 (may (tasks_of night) j) r.0 (omega (arith, r.1, night.short)) r.2);
             low = λ j s l y. (let a = below j s l y in omega (arith, night.short));
           };
       few = night.short;

@@ -5,7 +5,6 @@ use Rattle.sets.specs.declared.hours.Hours.{Hours}
 use Rattle.night.specs.declared.task.Task.{Task}
 use Rattle.sets.specs.Hours.{blank}
 use Rattle.night.specs.Task.{blank_task, units}
-use Rattle.level.specs.declared.crew.Crew.{Crew}
 use Rattle.level.specs.declared.parts.Parts.{Parts}
 use Rattle.level.specs.declared.task_set.TaskSet.{TaskSet}
 use Rattle.level.specs.Parts.{label}
@@ -20,11 +19,6 @@ pub record CrewOf (n : ℕ) (of : List ℕ) (i : ℕ) (c : TaskSet) : Type 0 whe
 pub record Crews (n : ℕ) (p : Parts) : Type 0 where
   pub sets : length p.sets ≡ 96
   pub each : (i : ℕ) → p.top ≤ i → i < 96 → CrewOf n p.of i (slice_index_or p.sets i nobody)
-
--- there is a place for each task of a night
-pub record Sized (c : Crew) : Type 0 where
-  pub rows : length c.may ≡ 200
-  pub supplies : length c.supply ≡ 200
 
 -- the tasks below m that p picks stand in rising order: task j at the position size j p, with its hours and q for each of its units
 pub record Manned (ts : List Task) (p : ℕ → Bool) (q m : ℕ) (may : List Hours) (supply : List ℕ) : Type 0 where

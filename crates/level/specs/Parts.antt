@@ -2,7 +2,7 @@
 use Rattle.std.specs.Prelude.{◌≡◌, ℕ, ◌+◌, ◌*◌, ◌<◌, ◌≤◌, Bool, true, List, length, get_or, slice_index, slice_index_or}
 use Rattle.std.proofs.Common.{lit<}
 use Rattle.fraction.specs.declared.exact.Fraction.{Fraction}
-use Rattle.fraction.specs.Sum.{size}
+use Rattle.fraction.specs.Sum.{any, size}
 use Rattle.fraction.proofs.Fractions.{coprime_one}
 use Rattle.sets.specs.declared.hours.Hours.{Hours}
 use Rattle.night.specs.declared.task.Task.{Task}
@@ -34,7 +34,7 @@ amount plan j s = slice_index plan (j * 96 + s)
 pub record Ready (ts : List Task) : Type 0 where
   pub few : length ts ≤ 200
   pub light : (j : ℕ) → j < length ts → units ts j ≤ 1000000
-  pub some : (j : ℕ) → j < length ts → (s : ℕ) × (s < 96) × (may ts j s ≡ true)
+  pub some : (j : ℕ) → j < length ts → any 96 (may ts j) ≡ true
   pub low : (j s : ℕ) → j < length ts → may ts j s ≡ true → s < 96
 
 -- groups and parts: `found` groups have their levels, and their amounts in the plan, and the parts from the label `top` on are stacked;

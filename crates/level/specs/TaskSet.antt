@@ -1,5 +1,5 @@
 -- Sets of tasks, by their members. Assumes nothing: these are definitions.
-use Rattle.std.specs.Prelude.{◌≡◌, ℕ, ◌-◌, ◌<◌, ◌≤◌, Bool, true, false, cond, nat_lt}
+use Rattle.std.specs.Prelude.{ℕ, ◌-◌, Bool, cond, nat_lt}
 use Rattle.sets.specs.Hours.{has, blank}
 use Rattle.level.specs.declared.task_set.TaskSet.{TaskSet}
 
@@ -10,9 +10,3 @@ holds c j = cond (nat_lt j 128) (has c.low j) (has c.high (j - 128))
 -- the empty set, which stands where a list of sets has ended
 abbrev pub nobody : TaskSet
 nobody = record { low = blank; high = blank }
-
--- j is the first task of c from `from` on
-pub record Next (c : TaskSet) (from j : ℕ) : Type 0 where
-  pub reached : from ≤ j
-  pub member : holds c j ≡ true
-  pub between : (k : ℕ) → from ≤ k → k < j → holds c k ≡ false

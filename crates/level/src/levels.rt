@@ -2,6 +2,7 @@
 use fraction::Fraction;
 use sets::hours::Hours;
 
+// Arrays of 96 and 200 by value beside a count, and no Vec: planning takes nothing from the heap.
 #[derive(Drop)]
 pub struct Levels {
     // how many groups there are

@@ -7,6 +7,7 @@ mod load;
 mod parts;
 mod plan;
 mod rows;
+mod search;
 mod ship;
 pub mod short;
 mod split;

@@ -13,26 +13,21 @@ fn raise(all: &mut [Fraction], set: Hours, level: Fraction)
     requires low { (s : ℕ) → has set s ≡ true → s < length all.old }
     ensures { (s : ℕ) → slice_index_or all.new s nought ≡ (if has set s then level else slice_index_or all.old s nought) }
 {
-    let mut rest = set;
-    'hours: while let Some(s) = rest.lowest() {
+    'hours: for s in set {
         all[s] = level;
-        rest = rest.remove(s);
     }
 }
 
 // The loads of all hours: the level of the first group that has the hour, or 0 where it is of none.
 pub fn loads(parts: &Parts) -> [Fraction; 96]
     requires found { parts.now.found ≤ 96 }
-    requires groups { length parts.now.levels ≡ 96 }
-    requires rows { length parts.now.hours ≡ 96 }
-    ensures long { length result ≡ 96 }
-    ensures same { (s : ℕ) → s < 96 → Same (slice_index_or result s nought) (level_at parts.now.found parts.now.hours parts.now.levels s) }
+    ensures { (s : ℕ) → s < 96 → Same (slice_index_or result s nought) (level_at parts.now.found parts.now.hours parts.now.levels s) }
 {
     let mut all = [Fraction::zero(); 96];
     let mut idle = Hours::below(96);
-    'groups: for g in 0..parts.found {
-        let set = parts.hours[g].common(idle);
-        raise(&mut all, set, parts.levels[g]);
+    'groups: for (hours, level) in parts.hours[..parts.found].iter().zip(&parts.levels) {
+        let set = hours.common(idle);
+        raise(&mut all, set, *level);
         idle = idle.minus(set);
     }
     all

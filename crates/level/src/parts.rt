@@ -4,11 +4,12 @@ use fraction::Fraction;
 use sets::hours::Hours;
 
 // Labels are numbers below 96: those below `found` are groups, those from `top` on are parts that wait, the densest first.
+// Arrays of 96 and 200 by value, and no Vec, since planning takes nothing from the heap: found groups grow from below, waiting parts from above.
 #[derive(Drop)]
 pub struct Parts {
     // how many groups are found
     pub found: usize,
-    // the label of the part on top; 96 if none waits
+    // the label of the part on top; 96, the end of the arrays, if none waits
     pub top: usize,
     // by label: the hours
     pub hours: [Hours; 96],

@@ -1,23 +1,13 @@
 // A group's amounts are written into the lent plan, a part of it lent on for each row.
 ghost use Rattle.std.specs.Prelude.{◌≡◌, ℕ, ◌+◌, ◌*◌, ◌<◌, ◌≤◌, length, if◌then◌else◌, slice_index};
-ghost use Rattle.level.specs.Crew.{Crews};
 ghost use Rattle.level.specs.Parts.{Top, amount, top_tasks};
 ghost use Rattle.level.specs.Row.{Written};
 ghost use Rattle.flow.specs.Lent.{flow};
 ghost use Rattle.sets.specs.Hours.{has};
 
-use crate::parts::Parts;
+use crate::search::Search;
 use flow::net::Net;
 use sets::hours::Hours;
-
-// Nothing in a row.
-fn clear(row: &mut [u64])
-    ensures { (s : ℕ) → slice_index row.new s ≡ 0 }
-{
-    'cells: for x in row.iter_mut() {
-        *x = 0;
-    }
-}
 
 // Writes a row of amounts: the marked cells, and 0 elsewhere.
 fn write(row: &mut [u64], cells: &[u64], marks: Hours)
@@ -25,11 +15,9 @@ fn write(row: &mut [u64], cells: &[u64], marks: Hours)
     requires cells { length cells.now ≡ 96 }
     ensures { (s : ℕ) → s < 96 → slice_index row.new s ≡ (if has marks s then slice_index cells.now s else 0) }
 {
-    clear(row);
-    let mut rest = marks.common(Hours::below(96));
-    'hours: while let Some(s) = rest.lowest() {
+    row.fill(0);
+    'hours: for s in marks.common(Hours::below(96)) {
         row[s] = cells[s];
-        rest = rest.remove(s);
     }
 }
 
@@ -48,21 +36,16 @@ fn place(plan: &mut [u64], j: usize, work: &[u64], i: usize, marks: Hours)
     );
 }
 
-// Writes what the n tasks of the part on top ship into their rows of the plan.
-pub fn write_group(n: usize, parts: &Parts, net: &Net, work: &[u64], plan: &mut [u64])
-    requires few { n ≤ 200 }
-    requires top { Top parts.now }
-    requires crews { Crews n parts.now }
-    requires work { n * 96 ≤ length work.now }
-    requires plan { n * 96 ≤ length plan.old }
-    ensures { Written n (top_tasks parts.now) (flow net.now work.now) plan.old plan.new }
-{
-    let mut i = 0;
-    let set = parts.sets[parts.top];
-    let mut from = 0;
-    'tasks: while let Some(j) = set.next(from) {
-        place(plan, j, work, i, net.marks[i]);
-        i += 1;
-        from = j + 1;
+impl Search<'_> {
+    // Writes what the tasks of the part on top ship into their rows of the plan.
+    pub fn write_group(&self, net: &Net, work: &[u64], plan: &mut [u64])
+        requires top { Top self.now.parts }
+        requires work { length self.now.tasks.now * 96 ≤ length work.now }
+        requires plan { length self.now.tasks.now * 96 ≤ length plan.old }
+        ensures { Written (length self.now.tasks.now) (top_tasks self.now.parts) (flow net.now work.now) plan.old plan.new }
+    {
+        'tasks: for (i, j) in self.parts.sets[self.parts.top].into_iter().enumerate() {
+            place(plan, j, work, i, net.marks[i]);
+        }
     }
 }

@@ -1,6 +1,8 @@
 // Why a plan is refused.
 ghost use Rattle.std.specs.Prelude.{◌≡◌};
-ghost use Rattle.level.specs.Short.{code};
+ghost use Rattle.level.specs.Short.{code as short_code};
+
+use refusals::Numbered;
 
 // A lent slice is too short.
 #[derive(Clone, Copy, PartialEq, Eq, Debug)]
@@ -9,18 +11,14 @@ pub enum Short {
     Work,
 }
 
-impl Short {
-    // The number of the refusal.
-    pub fn number(self) -> usize
-        ensures { result ≡ (code self).0 }
-    {
+impl Numbered for Short {
+    ghost code = { short_code };
+
+    fn number(self) -> usize {
         5
     }
 
-    // The place of the refusal: which slice.
-    pub fn place(self) -> usize
-        ensures { result ≡ (code self).1 }
-    {
+    fn place(self) -> usize {
         match self {
             Short::Plan => 0,
             Short::Work => 1,

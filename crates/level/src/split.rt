@@ -24,9 +24,7 @@ fn free(tasks: &[Task], of: &mut [usize], set: TaskSet, top: usize, u: Hours) ->
     ensures dense { (j : ℕ) → holds result j ≡ without (holds set) (open_to 96 (may tasks.now) (has u)) j }
 {
     let mut dense = TaskSet::none();
-    let mut from = 0;
-    'tasks: while let Some(j) = set.next(from) {
-        from = j + 1;
+    'tasks: for j in set {
         if tasks[j].hours.meets(u) {
             continue;
         }

@@ -17,8 +17,8 @@ fn used(tasks: &[Task]) -> Hours
     ensures { (s : ℕ) → has result s ≡ any (length tasks.now) (λ j. may tasks.now j s) }
 {
     let mut all = Hours::none();
-    for j in 0..tasks.len() {
-        all = all.union(tasks[j].hours);
+    'tasks: for task in tasks {
+        all = all.union(task.hours);
     }
     all
 }

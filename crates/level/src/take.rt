@@ -14,10 +14,8 @@ fn rename(of: &mut [usize], set: TaskSet, n: usize, top: usize, to: usize)
     requires crew { CrewOf n of.old top set }
     ensures { Moved top to n of.old of.new }
 {
-    let mut from = 0;
-    'tasks: while let Some(j) = set.next(from) {
+    'tasks: for j in set {
         of[j] = to;
-        from = j + 1;
     }
 }
 
@@ -27,7 +25,6 @@ pub fn take(n: usize, parts: &mut Parts, level: Fraction)
     requires top { Top parts.old }
     requires crews { Crews n parts.old }
     requires found { parts.old.found ≤ parts.old.top }
-    requires groups { length parts.old.levels ≡ 96 }
     ensures taken { Taken n level parts.old parts.new }
 {
     let top = parts.top;

@@ -1,10 +1,12 @@
 // Sets of tasks, each operation told by the members of its outcome.
-ghost use Rattle.std.specs.Prelude.{◌≡◌, ℕ, ◌≤◌, false, not, ◌&&◌, ◌||◌, MatchOption, ◌==◌, nat_lt};
-ghost use Rattle.level.specs.TaskSet.{holds, Next};
+ghost use Rattle.std.specs.Prelude.{◌≡◌, ℕ, false, not, ◌&&◌, ◌||◌, ◌==◌, nat_lt};
+ghost use Rattle.level.specs.TaskSet.{holds};
 
 use sets::hours::Hours;
+use sets::iter::{IndexSet, Members};
 
-// A set of numbers below 256, in two halves.
+// A set of numbers below 256, in two halves. Not one generic type with `Hours`: over words of any number each operation of both would be
+// a loop, where here it is a call or two.
 #[derive(Clone, Copy)]
 pub struct TaskSet {
     low: Hours,
@@ -58,21 +60,31 @@ impl TaskSet {
             high: self.high.minus(other.high),
         }
     }
+}
 
-    // The first task of the set from a number on, if there is one.
-    pub fn next(self, from: usize) -> Option<usize>
-        ensures { MatchOption result ((k : ℕ) → from ≤ k → holds self k ≡ false) (λ j. Next self from j) }
-    {
-        if let Some(j) = self.low.minus(Hours::below(from)).lowest() {
+impl IndexSet for TaskSet {
+    ghost end = { 256 };
+
+    ghost has = { holds };
+
+    fn take_lowest(&mut self) -> Option<usize> {
+        if let Some(j) = self.low.take_lowest() {
             return Some(j);
         }
-        match self
-            .high
-            .minus(Hours::below(from.saturating_sub(128)))
-            .lowest()
-        {
-            Some(j) => Some(128 + j),
-            None => None,
-        }
+        let j = self.high.take_lowest()?;
+        Some(128 + j)
+    }
+}
+
+// Written for each set, since std's trait can't be given to every set of numbers at once.
+impl IntoIterator for TaskSet {
+    type Item = usize;
+
+    type IntoIter = Members<TaskSet>;
+
+    ghost into_iter_gives = { λ set m. m.rest ≡ set };
+
+    fn into_iter(self) -> Members<TaskSet> {
+        Members::of(self)
     }
 }

@@ -4,9 +4,7 @@ ghost use Rattle.level.specs.Walk.{Within, Walking};
 
 use crate::crew::Crew;
 use crate::parts::Parts;
-use crate::start::start;
-use crate::step::step;
-use flow::net::Net;
+use crate::search::Search;
 use night::task::Task;
 
 // The parts after the last flow, all of them groups, and how many flows there were: in all, and at most for one group.
@@ -26,15 +24,14 @@ pub fn walk(hours: usize, tasks: &[Task], plan: &mut [u64], work: &mut [u64]) ->
     ensures shared { result.flows ≤ result.parts.found * result.longest }
     ensures done { result.parts.top ≡ 96 }
 {
-    let mut parts = start(tasks);
+    let mut search = Search::new(tasks);
     let mut crew = Crew::new();
-    let mut net = Net::new();
     let mut flows = 0;
     let mut longest = 0;
-    'groups: while parts.top < 96 {
+    'groups: while search.parts.top < 96 {
         'flows: for i in 0..hours {
             flows += 1;
-            if step(tasks, &mut parts, &mut crew, &mut net, plan, work) {
+            if search.step(&mut crew, plan, work) {
                 if longest <= i {
                     longest = i + 1;
                 }
@@ -43,6 +40,7 @@ pub fn walk(hours: usize, tasks: &[Task], plan: &mut [u64], work: &mut [u64]) ->
         }
         unreachable()
     }
+    let Search { parts, .. } = search;
     Walked {
         parts,
         flows,

@@ -1,41 +1,34 @@
 // The level of the part on top.
 ghost use Rattle.std.specs.Prelude.{◌≡◌, ℕ, ◌≤◌, length};
 ghost use Rattle.fraction.specs.Sum.{part};
-ghost use Rattle.level.specs.Crew.{Crews};
 ghost use Rattle.level.specs.Cut.{Levels};
-ghost use Rattle.level.specs.Parts.{Ready, Top, top_tasks, top_hours};
+ghost use Rattle.level.specs.Parts.{Top, top_tasks, top_hours};
 ghost use Rattle.night.specs.Task.{units};
 
-use crate::parts::Parts;
+use crate::search::Search;
 use fraction::Fraction;
-use night::task::Task;
 
-// The units of the tasks of the part on top.
-fn weigh(tasks: &[Task], parts: &Parts) -> u64
-    requires ready { Ready tasks.now }
-    requires top { Top parts.now }
-    requires crews { Crews (length tasks.now) parts.now }
-    ensures value { result ≡ part (length tasks.now) (top_tasks parts.now) (units tasks.now) }
-    ensures small { result ≤ 200000000 }
-{
-    let mut all = 0;
-    let set = parts.sets[parts.top];
-    let mut from = 0;
-    'tasks: while let Some(j) = set.next(from) {
-        all += tasks[j].units as u64;
-        from = j + 1;
+impl Search<'_> {
+    // The units of the tasks of the part on top.
+    fn weigh(&self) -> u64
+        requires top { Top self.now.parts }
+        ensures value { result ≡ part (length self.now.tasks.now) (top_tasks self.now.parts) (units self.now.tasks.now) }
+        ensures small { result ≤ 200000000 }
+    {
+        let mut all = 0;
+        'tasks: for j in self.parts.sets[self.parts.top] {
+            all += self.tasks[j].units as u64;
+        }
+        all
     }
-    all
-}
 
-// The level of the part on top: its units for each of its hours, in lowest terms.
-pub fn level_of(tasks: &[Task], parts: &Parts) -> Fraction
-    requires ready { Ready tasks.now }
-    requires top { Top parts.now }
-    requires crews { Crews (length tasks.now) parts.now }
-    ensures value { Levels (length tasks.now) 96 (units tasks.now) (top_tasks parts.now) (top_hours parts.now) result.num result.den }
-    ensures small { result.den ≤ 96 }
-{
-    let hours = parts.hours[parts.top];
-    Fraction::reduced(weigh(tasks, parts), hours.count() as u64).unwrap()
+    // The level of the part on top: its units for each of its hours, in lowest terms.
+    pub fn level(&self) -> Fraction
+        requires top { Top self.now.parts }
+        ensures value { Levels (length self.now.tasks.now) 96 (units self.now.tasks.now) (top_tasks self.now.parts) (top_hours self.now.parts) result.num result.den }
+        ensures small { result.den ≤ 96 }
+    {
+        let hours = self.parts.hours[self.parts.top];
+        Fraction::reduced(self.weigh(), hours.count() as u64).unwrap()
+    }
 }

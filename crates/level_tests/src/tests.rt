@@ -2,6 +2,7 @@ use fraction::Fraction;
 use level::short::Short;
 use level::{length_needed, plan_night};
 use night::night::Night;
+use refusals::Numbered;
 use std::process::Abort;
 use std::test::Fail;
 
@@ -48,14 +49,11 @@ const NIGHTS: [(&[u8], &[(u64, u64)]); 11] = [
     (&[2, 1, 3, 0, 0, 0, 2], &[(0, 1), (3, 1)]),
 ];
 
-// Whether the first loads are these.
+// Whether the first loads are these. (`plan_tests` has the same few lines: a crate for them would be longer than they are.)
 fn agree(loads: &[Fraction], wanted: &[(u64, u64)]) -> bool {
-    for s in 0..wanted.len() {
-        if s >= loads.len() || loads[s].num() != wanted[s].0 || loads[s].den() != wanted[s].1 {
-            return false;
-        }
-    }
-    true
+    wanted.len() <= loads.len()
+        && loads.iter().zip(wanted.iter()).all(|(load, (num, den))| load.num() == *num
+            && load.den() == *den)
 }
 
 // Plans a night, and compares its loads.
@@ -117,8 +115,5 @@ fn refused(rt: HostRuntime) -> Result<(), Fail> {
 }
 
 fn matches(r: Result<level::levels::Levels, Short>, e: Short) -> bool {
-    match r {
-        Ok(_) => false,
-        Err(s) => s == e,
-    }
+    r.err() == Some(e)
 }

@@ -107,6 +107,11 @@ pub told_weaker : (e : Unprinted) {P Q : Type 0} → (P → Q) → Told e P → 
 told_weaker NoMemory f t = tt
 told_weaker NoPlan f t = f t
 
+-- and told of any failure where it holds
+pub told_any : (e : Unprinted) {P : Type 0} → P → Told e P
+told_any NoMemory p = tt
+told_any NoPlan p = p
+
 -- a text that began empty, after the hours and then the tasks
 pub text_both : (new mid text hours tasks : List ℕ) → new ≡ [] → mid ≡ new ++ hours → text ≡ mid ++ tasks → text ≡ hours ++ tasks
 text_both new mid text hours tasks e h k =

@@ -1,12 +1,13 @@
 // One line each, with no end of line.
-ghost use Rattle.std.specs.Prelude.{Some};
+ghost use Rattle.std.specs.Prelude.{◌≡◌, Some};
 ghost use Rattle.lines.specs.Lines.{hour_line, task_line, refused_line, uneven_line};
 
 use fraction::Fraction;
+use refusals::Numbered;
 use std::fmt;
 
 // An hour's load.
-#[derive(Clone, Copy)]
+#[derive(Clone, Copy, PartialEq, Eq, Debug)]
 pub struct HourLine {
     pub hour: usize,
     pub load: Fraction,
@@ -23,7 +24,7 @@ impl fmt::Display for HourLine {
 }
 
 // How much of a task is done in an hour.
-#[derive(Clone, Copy)]
+#[derive(Clone, Copy, PartialEq, Eq, Debug)]
 pub struct TaskLine {
     pub task: usize,
     pub hour: usize,
@@ -42,10 +43,22 @@ impl fmt::Display for TaskLine {
 }
 
 // A refusal: its number, and the place where it stands.
-#[derive(Clone, Copy)]
+#[derive(Clone, Copy, PartialEq, Eq, Debug)]
 pub struct RefusedLine {
     pub number: u64,
     pub place: u64,
+}
+
+impl RefusedLine {
+    // The line of a refusal. No From: an impl for every R would overlap std's From<T> for T.
+    pub fn of<R: Numbered>(refusal: R) -> RefusedLine
+        ensures { (result.number ≡ (R.code refusal).0) × (result.place ≡ (R.code refusal).1) }
+    {
+        RefusedLine {
+            number: refusal.number() as u64,
+            place: refusal.place() as u64,
+        }
+    }
 }
 
 impl fmt::Display for RefusedLine {
@@ -59,7 +72,7 @@ impl fmt::Display for RefusedLine {
 }
 
 // The refusal of a sheet that is not even: the task, the hour in which it is done, and one with less load in which it may be done.
-#[derive(Clone, Copy)]
+#[derive(Clone, Copy, PartialEq, Eq, Debug)]
 pub struct UnevenLine {
     pub task: u64,
     pub done: u64,

@@ -14,16 +14,15 @@ use std::fmt;
 fn add_hours(text: &mut String, loads: &[Fraction]) -> fmt::Result
     ensures { (d : Fraction) → OnOk result (string_bytes text.new ≡ string_bytes text.old ++ hours_text (length loads.now) (λ s. (slice_index_or loads.now s d).num) (λ s. (slice_index_or loads.now s d).den)) }
 {
-    for hour in 0..loads.len() {
-        let load = loads[hour];
-        let line = HourLine { hour, load };
+    for (hour, load) in loads.iter().enumerate() {
+        let line = HourLine { hour, load: *load };
         writeln!(text, "{line}")?;
     }
     Ok(())
 }
 
 // Why a plan is not printed: no memory, or numbers that are no plan's.
-#[derive(Clone, Copy)]
+#[derive(Clone, Copy, PartialEq, Eq, Debug)]
 pub enum Unprinted {
     NoMemory,
     NoPlan,
@@ -51,13 +50,11 @@ impl From<AllocError> for Unprinted {
 fn add_task(text: &mut String, task: usize, parts: u64, row: &[u64]) -> Result<(), Unprinted>
     ensures { Prints result (row_printable (length row.now) parts (λ s. slice_index row.now s)) (λ _. string_bytes text.new ≡ string_bytes text.old ++ task_text (length row.now) task parts (λ s. slice_index row.now s)) }
 {
-    for hour in 0..row.len() {
-        if row[hour] == 0 {
+    for (hour, amount) in row.iter().enumerate() {
+        if *amount == 0 {
             continue;
         }
-        let Some(amount) = Fraction::reduced(row[hour], parts) else {
-            return Err(Unprinted::NoPlan);
-        };
+        let amount = Fraction::reduced(*amount, parts).ok_or(Unprinted::NoPlan)?;
         let line = TaskLine { task, hour, amount };
         writeln!(text, "{line}")?;
     }
@@ -75,9 +72,10 @@ fn add_tasks(
     requires rows { length parts.now * max_hours ≤ length amounts.now }
     ensures { Prints result (tasks_printable hours parts.now amounts.now) (λ _. string_bytes text.new ≡ string_bytes text.old ++ tasks_text hours parts.now amounts.now) }
 {
-    for task in 0..parts.len() {
+    // rows by place, since each is the first hours of 96 amounts
+    for (task, parts) in parts.iter().enumerate() {
         let start = task * MAX_HOURS;
-        add_task(text, task, parts[task], &amounts[start..start + hours])?;
+        add_task(text, task, *parts, &amounts[start..start + hours])?;
     }
     Ok(())
 }

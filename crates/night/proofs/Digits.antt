@@ -1,15 +1,13 @@
 -- Laws of numbers as bytes.
-use Rattle.std.proofs.Common.{◌≡◌, ℕ, zero, suc, ◌+◌, ◌-◌, ◌*◌, ◌/◌, ◌%◌, ◌^◌, ◌<◌, ◌≤◌, min, List, [], ◌∷◌, ◌++◌, length, get_or, take, drop, sym, refl, ap, ◌∙◌, inl, inr, mul_comm, pow-suc, add-one, arith, lit<}
+use Rattle.std.proofs.Common.{◌≡◌, ℕ, zero, suc, ◌+◌, ◌-◌, ◌*◌, ◌/◌, ◌%◌, ◌^◌, ◌<◌, ◌≤◌, min, List, [], ◌∷◌, ◌++◌, length, get_or, take, drop, sym, refl, ap, ◌∙◌, inl, inr, mul_assoc, mul_comm, pow-suc, length-append, add-one, arith, replicate, lit<}
 use native.Mathlib.Nat.{pow-le-pow_right, div-div-eq-div-mul}
 use lib.Bits.{bit_and}
 use Rattle.std.proofs.lemmas.Nat.{and_mask, div-add-mod'}
-use Rattle.std.proofs.lemmas.List.{drop_more, get_or-take, length-take-le, append-nil, append_assoc, drop_all, take_all}
+use Rattle.std.proofs.lemmas.List.{length-take, get_or-take, length-take-le, length-drop, append-nil, append_assoc, drop-replicate, take_all}
 use Rattle.std.proofs.lemmas.Bool.{cases_lt}
+use Rattle.std.specs.Int.{sum_through, byte_worth, from_le_bytes, w128}
+use borrow.Rule.Slice.PartMut.{put_mid}
 use Rattle.night.specs.Bytes.{little, digits}
-
-pub little_cons : (x : ℕ) (xs : List ℕ) → little (x ∷ xs) ≡ x + little xs * 256
-unfolding little
-little_cons x xs = refl
 
 pub length_digits : (w n : ℕ) → length (digits w n) ≡ w
 unfolding digits
@@ -41,15 +39,64 @@ little_lt (x ∷ xs) h =
     let l : x < 256 = h 0 (omega arith) in
     omega (arith, little_lt xs (λ i k. h (suc i) (omega arith)), pow-suc 256 (length xs))
 
--- one byte more, in front of those that are read, and behind those that are written
-pub little_more :
-    (b : List ℕ) (n i : ℕ) → i < n → n ≤ length b →
-    little (drop i (take n b)) ≡ get_or b i 0 + little (drop (i + 1) (take n b)) * 256
-unfolding little
-little_more b n i l m =
-    let k : i < length (take n b) = omega (arith, length-take-le n b m) in
-    rw (drop_more (take n b) i 0 k, get_or-take n b i 0 l)
+-- the number of bytes as a sum over their places, as std's `from_le_bytes` has it
+through_more : (xs : List ℕ) (k : ℕ) → sum_through (λ i. byte_worth (suc i) (get_or xs i 0)) k ≡ sum_through (λ i. byte_worth i (get_or xs i 0)) k * 256
+through_more xs zero = omega arith
+through_more xs (suc k) =
+    omega (arith, through_more xs k, ap (λ p. get_or xs (suc k) 0 * p) (pow-suc 256 (suc k)), mul_assoc (get_or xs (suc k) 0) (256 ^ suc k) 256)
 
+through_first : (f : ℕ → ℕ) (k : ℕ) → sum_through f (suc k) ≡ f 0 + sum_through (λ i. f (suc i)) k
+through_first f zero = refl
+through_first f (suc k) = omega (arith, through_first f k)
+
+little_through : (xs : List ℕ) (k : ℕ) → length xs ≤ k + 1 → sum_through (λ i. byte_worth i (get_or xs i 0)) k ≡ little xs
+unfolding little
+little_through [] zero l = refl
+little_through [] (suc k) l = omega (arith, little_through [] k (omega arith))
+little_through (x ∷ []) zero l = omega arith
+little_through (x ∷ (y ∷ xs)) zero l = absurd (omega arith)
+little_through (x ∷ xs) (suc k) l =
+    omega (arith, through_first (λ i. byte_worth i (get_or (x ∷ xs) i 0)) k, through_more xs k, little_through xs k (omega arith))
+
+-- zeros behind bytes change no number
+little_zeros : (xs : List ℕ) (k : ℕ) → little (xs ++ replicate k 0) ≡ little xs
+unfolding little
+little_zeros [] zero = refl
+little_zeros [] (suc k) = omega (arith, little_zeros [] k)
+little_zeros (x ∷ xs) k = omega (arith, little_zeros xs k)
+
+-- the first bytes, filled up with zeros
+pub little_padded :
+    (b w : List ℕ) (n v : ℕ) → n ≡ min (length b) 16 → w ≡ take n b →
+    v ≡ from_le_bytes w128 (put_mid 0 n (replicate 16 0) w) → v ≡ little (take 16 b)
+little_padded b w n v m e h =
+    let blank : List ℕ = replicate 16 0 in
+    let zeros : List ℕ = drop n blank in
+    let long : length w ≡ n = ap length e ∙ length-take-le n b (omega arith) in
+    let room : length (w ++ zeros) ≤ 16 = omega (arith, length-append w zeros, length-drop n blank) in
+    let pad : zeros ≡ replicate (16 - n) 0 = drop-replicate n 16 0 in
+    h ∙ little_through (w ++ zeros) 15 room
+    ∙ ap (λ z. little (w ++ z)) {y = replicate (16 - n) 0} pad
+    ∙ little_zeros w (16 - n)
+    ∙ ap little (e ∙ all)
+  where
+    all : take n b ≡ take 16 b
+    all =
+        elim (cases_lt (length b) 16) [
+          | inl l ↦ take_all n b (omega arith) ∙ sym (take_all 16 b (omega arith))
+          | inr l ↦ ap (λ k. take k b) (let k : n ≡ 16 = omega arith in k)
+        ]
+
+-- a number is small if few bytes write it
+pub little_small :
+    (b : List ℕ) → ((i : ℕ) → get_or b i 0 < 256) → little (take 16 b) < 256 ^ length b
+little_small b h =
+    let l = length-take 16 b in
+    let low = little_lt (take 16 b) (λ i k. let t : i < 16 = omega arith in rw (get_or-take 16 b i 0 t) (h i)) in
+    let p : 256 ^ length (take 16 b) ≤ 256 ^ length b = pow-le-pow_right (lit< tt) (omega arith) in
+    omega arith
+
+-- one byte more, behind those that are written
 pub digits_more : (w n : ℕ) → digits (w + 1) n ≡ digits w n ++ (n / 256 ^ w % 256 ∷ [])
 unfolding digits
 digits_more zero n = let e : n / 256 ^ 0 ≡ n = omega arith in rw e
@@ -58,12 +105,6 @@ digits_more (suc w) n =
     let e : n / 256 / 256 ^ w ≡ n / 256 ^ suc w =
     div-div-eq-div-mul n 256 (256 ^ w) ∙ ap (λ q. n / q) (mul_comm 256 (256 ^ w) ∙ sym (pow-suc 256 w)) in
     rw (s, ← e) (ap (λ ys. n % 256 ∷ ys) (digits_more w (n / 256)))
-
--- a byte more than k bytes still fits into 16
-pub little_room : (v k : ℕ) → v < 256 ^ k → k < 16 → v * 256 + 255 < 2 ^ 128
-little_room v k h l =
-    let m : k ≤ 15 = omega arith in
-    let p : 256 ^ k ≤ 256 ^ 15 = pow-le-pow_right (lit< tt) m in omega arith
 
 pub shift_byte : (n i : ℕ) → n / 256 ^ i / 256 ≡ n / 256 ^ (i + 1)
 shift_byte n i = rw add-one (div-div-eq-div-mul n (256 ^ i) 256 ∙ ap (λ q. n / q) (sym (pow-suc 256 i)))
@@ -80,32 +121,3 @@ digits_push xs ys n i rest e h =
     rw (digits_more i n)
     (h ∙ append_assoc xs (digits i n) (bit_and rest 255 ∷ [])
     ∙ ap (λ r. xs ++ (digits i n ++ (r ∷ []))) (and_mask rest 8 ∙ ap (λ r. r % 256) e))
-
--- the loop that reads: its start and its step
-pub little_start : (b : List ℕ) (n : ℕ) → n ≤ length b → 0 ≡ little (drop n (take n b))
-unfolding little
-little_start b n l =
-    let e : drop n (take n b) ≡ [] = drop_all n (take n b) (omega (arith, length-take-le n b l)) in rw e
-
-pub little_step :
-    (b : List ℕ) (n i v : ℕ) → 0 < i → i ≤ n → n ≤ length b → v ≡ little (drop i (take n b)) →
-    v * 256 + get_or b (i - 1) 0 ≡ little (drop (i - 1) (take n b))
-little_step b n i v p l m e =
-    let s : i - 1 + 1 ≡ i = omega arith in
-    let r : little (drop (i - 1 + 1) (take n b)) ≡ v = rw s (sym e) in
-    omega (arith, little_more b n (i - 1) (omega arith) m, r)
-
-pub little_bound : (v x n i : ℕ) → 0 < i → i ≤ n → x < 256 → v < 256 ^ (n - i) → v * 256 + x < 256 ^ (n - (i - 1))
-little_bound v x n i p l b h =
-    let s : n - (i - 1) ≡ suc (n - i) = omega arith in rw s (omega (arith, pow-suc 256 (n - i)))
-
-pub little_end :
-    (b : List ℕ) (n i v : ℕ) → i ≤ 0 → n ≡ min (length b) 16 → v ≡ little (drop i (take n b)) → v ≡ little (take 16 b)
-little_end b n zero v z m e =
-    elim (cases_lt (length b) 16) [
-      | inl l ↦
-          let k : n ≡ length b = omega arith in
-          e ∙ ap little (ap (λ k. take k b) k ∙ take_all (length b) b (omega arith) ∙ sym (take_all 16 b (omega arith)))
-      | inr l ↦ let k : n ≡ 16 = omega arith in e ∙ ap (λ k. little (take k b)) k
-    ]
-little_end b n (suc i) v z m e = absurd (omega arith)

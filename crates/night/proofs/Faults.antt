@@ -1,5 +1,5 @@
 -- Which fault is the first.
-use Rattle.std.proofs.Common.{◌≡◌, ℕ, ◌+◌, ◌<◌, ◌≤◌, true, ◌⊎◌, List, length, sym, refl, ap, ◌∙◌, subst, inl, inr, arith, below_more}
+use Rattle.std.proofs.Common.{◌≡◌, ℕ, ◌+◌, ◌<◌, ◌≤◌, true, ◌⊎◌, List, length, sym, refl, ap, ◌∙◌, subst, inl, inr, arith}
 use Rattle.std.proofs.lemmas.Bool.{cases_lt, cases_eq}
 use Rattle.night.specs.declared.task.Task.{Task}
 use Rattle.sets.specs.Bit.{bit}
@@ -16,10 +16,6 @@ use Rattle.night.proofs.Rows.{fits_row}
 -- the tasks before j fit
 abbrev pub Before : List ℕ → ℕ → ℕ → Type 0
 Before b n j = (i : ℕ) → i < j → Fits n (task_in b i)
-
-pub before_more :
-    (b : List ℕ) (n j : ℕ) (t : Task) → Before b n j → t ≡ task_in b j → Fits n t → Before b n (j + 1)
-before_more b n j t f e g = below_more (λ i. Fits n (task_in b i)) j f (subst (Fits n) e g)
 
 -- under a good header, where the tasks before j fit, no fault stands before task j
 pub not_before :

@@ -1,9 +1,9 @@
 pub mod Digits
 pub mod Rows
 pub mod Places
+pub mod Reading
 pub mod Faults
 pub mod Tasks
-pub mod Written
 pub mod RoundTrip
 pub mod RowBits
 pub mod OneRefusal

@@ -1,12 +1,11 @@
 -- Laws of the places of tasks, and of numbers at places.
-use Rattle.std.proofs.Common.{◌≡◌, ℕ, ◌+◌, ◌-◌, ◌^◌, ◌<◌, ◌≤◌, List, length, get_or, take, drop, ap, ◌∙◌, mul-le-mul_right, arith}
-use Rattle.std.proofs.lemmas.List.{take_all, length-take-le, length-drop, get_or-take, get_or-drop}
+use Rattle.std.proofs.Common.{◌≡◌, ℕ, ◌+◌, ◌-◌, ◌^◌, ◌<◌, ◌≤◌, List, length, take, drop, ap, ◌∙◌, mul-le-mul_right, arith}
+use Rattle.std.proofs.lemmas.List.{take_all, length-take-le, length-drop}
 use Rattle.sets.specs.declared.hours.Hours.{Hours}
 use Rattle.night.specs.declared.task.Task.{Task}
 use Rattle.night.specs.Bytes.{little}
 use Rattle.night.specs.Format.{width, place, number_at, hours_in, end_in, units_in, row_in, task_in}
 use Rattle.night.specs.Reading.{Headed}
-use Rattle.night.proofs.Digits.{little_lt}
 
 -- later tasks stand behind earlier ones
 pub place_mono : (w i j : ℕ) → i ≤ j → place w i ≤ place w j
@@ -29,12 +28,12 @@ part_number b p w l m =
     let k : length (take w (drop p b)) ≡ w = length-take-le w (drop p b) (omega (arith, length-drop p b)) in
     ap little (take_all 16 (take w (drop p b)) (omega arith))
 
-pub number_lt :
-    (b : List ℕ) (p w : ℕ) → ((i : ℕ) → get_or b i 0 < 256) → p + w ≤ length b → number_at b p w < 256 ^ w
-number_lt b p w h l =
-    let k : length (take w (drop p b)) ≡ w = length-take-le w (drop p b) (omega (arith, length-drop p b)) in
-    let lt = little_lt (take w (drop p b)) (λ i s. let t : i < w = omega arith in rw (get_or-take w (drop p b) i 0 t, get_or-drop p b i 0) (h (p + i))) in
-    rw k at lt
+-- a number of four bytes
+pub small_part : (b : List ℕ) (p n : ℕ) → p + 4 ≤ length b → n < 256 ^ length (take (p + 4 - p) (drop p b)) → n < 2 ^ 32
+small_part b p n l h =
+    let four : p + 4 - p ≡ 4 = omega arith in
+    let k : length (take 4 (drop p b)) ≡ 4 = length-take-le 4 (drop p b) (omega (arith, length-drop p b)) in
+    let s = rw (four, k) at h in omega arith
 
 -- a task that is made of what was read
 task_made :

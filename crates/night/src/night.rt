@@ -6,7 +6,7 @@ ghost use Rattle.night.specs.Task.{blank_task, Fits};
 use crate::task::Task;
 
 // 1 to 96 hours, and at most 200 tasks, each of which fits.
-#[derive(Drop)]
+#[derive(Debug, Drop)]
 pub struct Night {
     hours: usize,
     tasks: Vec<Task>,
@@ -16,6 +16,7 @@ pub struct Night {
     ghost each: { (j : ℕ) → j < length tasks.items → Fits hours (slice_index_or tasks.items j blank_task) },
 }
 
+mod layout;
 mod parts;
 pub mod reader;
 pub mod writer;

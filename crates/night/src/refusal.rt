@@ -1,8 +1,9 @@
 // Why bytes are no night.
 ghost use Rattle.std.specs.Prelude.{◌≡◌};
 ghost use Rattle.night.specs.declared.refusal.Refusal.TheVariants.{NoMemory};
-ghost use Rattle.night.specs.Refusal.{code};
+ghost use Rattle.night.specs.Refusal.{code as refusal_code};
 
+use refusals::Numbered;
 use std::alloc::AllocError;
 
 #[derive(Clone, Copy, PartialEq, Eq, Debug)]
@@ -21,11 +22,10 @@ pub enum Refusal {
     NoMemory,
 }
 
-impl Refusal {
-    // The number of the refusal.
-    pub fn number(self) -> usize
-        ensures { result ≡ (code self).0 }
-    {
+impl Numbered for Refusal {
+    ghost code = { refusal_code };
+
+    fn number(self) -> usize {
         match self {
             Refusal::Length(_) => 1,
             Refusal::HoursOutOfRange | Refusal::TooManyTasks => 2,
@@ -35,10 +35,7 @@ impl Refusal {
         }
     }
 
-    // The place of the refusal.
-    pub fn place(self) -> usize
-        ensures { result ≡ (code self).1 }
-    {
+    fn place(self) -> usize {
         match self {
             Refusal::Length(p) | Refusal::TooManyUnits(p) | Refusal::BadRow(p) => p,
             Refusal::TooManyTasks => 1,

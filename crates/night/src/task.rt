@@ -7,7 +7,7 @@ ghost use Rattle.night.specs.Task.{Fits};
 use crate::limits::MAX_UNITS;
 use sets::hours::Hours;
 
-#[derive(Clone, Copy)]
+#[derive(Clone, Copy, PartialEq, Eq, Debug)]
 pub struct Task {
     // the units that it needs
     pub units: u32,

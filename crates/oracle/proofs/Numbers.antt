@@ -1,5 +1,8 @@
 -- Laws of numbers in bytes.
-use Rattle.std.proofs.Common.{◌≡◌, ℕ, suc, ◌+◌, ◌-◌, ◌*◌, ◌^◌, ◌<◌, ◌≤◌, List, get_or, sym, pow-suc, arith, lit<}
+use Rattle.std.proofs.Common.{◌≡◌, ℕ, suc, ◌+◌, ◌-◌, ◌*◌, ◌^◌, ◌<◌, ◌≤◌, List, Option, Some, None, get_or, sym, ◌∙◌, pow-suc, arith, lit<}
+use Rattle.std.specs.List.{slice_get}
+use Rattle.std.specs.Option.{UnwrapsOrElse, unwrap_or}
+use Rattle.std.proofs.lemmas.Option.{unwrap_or-slice_get}
 use native.Mathlib.Nat.{pow-le-pow_right}
 use Rattle.oracle.specs.Little.{little}
 
@@ -27,3 +30,11 @@ pub little_room : (n w i : ℕ) → 0 < i → w ≤ 16 → n < 256 ^ (w - i) →
 little_room n w i p l h =
     let m : w - i ≤ 15 = omega arith in
     let q : 256 ^ (w - i) ≤ 256 ^ 15 = pow-le-pow_right (lit< tt) m in omega arith
+
+-- what is read of a list of numbers, or 0 behind its end
+read_or_zero : (o : Option ℕ) (x : ℕ) → UnwrapsOrElse o (λ y. y ≡ 0) x → x ≡ unwrap_or o 0
+read_or_zero None x h = h
+read_or_zero (Some y) x h = h
+
+pub item_read : (b : List ℕ) (i x : ℕ) → UnwrapsOrElse (slice_get b i) (λ y. y ≡ 0) x → x ≡ get_or b i 0
+item_read b i x h = read_or_zero (slice_get b i) x h ∙ unwrap_or-slice_get b i 0

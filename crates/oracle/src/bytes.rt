@@ -1,16 +1,10 @@
 // Numbers in bytes, low byte first, and the bytes of a night.
-ghost use Rattle.std.specs.Prelude.{◌≡◌, ◌+◌, ◌/◌, ◌^◌, ◌<◌, min, slice_index};
+ghost use Rattle.std.specs.Prelude.{◌≡◌, ◌+◌, ◌/◌, ◌^◌, ◌<◌, min};
 ghost use Rattle.oracle.specs.Little.{little};
 
+use crate::cells::item;
 use crate::draft::Draft;
 use std::alloc::{AllocError, Global};
-
-// The byte at a place, 0 behind the end.
-pub fn byte(bytes: &[u8], at: usize) -> u8
-    ensures { result ≡ slice_index bytes.now at }
-{
-    if at < bytes.len() { bytes[at] } else { 0 }
-}
 
 // The number that so many bytes write, at most 16 of them.
 pub fn number(bytes: &[u8], at: usize, width: usize) -> u128
@@ -18,18 +12,19 @@ pub fn number(bytes: &[u8], at: usize, width: usize) -> u128
 {
     let w = width.min(16);
     let mut n: u128 = 0;
+    // by index, as the definition has it: a byte behind the end counts as 0
     for i in (0..w).rev() {
-        n = n * 256 + u128::from(byte(bytes, at.saturating_add(i)));
+        n = n * 256 + u128::from(item(bytes, at.saturating_add(i)));
     }
     n
 }
 
-// Writes a number in so many bytes.
+// Writes a number in so many bytes; those behind the sixteenth are 0.
 pub fn write(out: &mut Vec<u8>, n: u128, width: usize) -> Result<(), AllocError> {
-    let mut rest = n;
-    for _ in 0..width {
-        out.push((rest & 255) as u8)?;
-        rest >>= 8;
+    let bytes = n.to_le_bytes();
+    out.extend_from_slice(&bytes[..width.min(16)])?;
+    for _ in 16..width {
+        out.push(0)?;
     }
     Ok(())
 }
@@ -38,7 +33,7 @@ pub fn write(out: &mut Vec<u8>, n: u128, width: usize) -> Result<(), AllocError>
 pub fn row_width(hours: usize) -> usize
     ensures { hours + 7 < 2 ^ 64 → result ≡ (hours + 7) / 8 }
 {
-    hours.saturating_add(7) / 8
+    hours.div_ceil(8)
 }
 
 pub fn night_bytes(heap: Global, draft: &Draft) -> Result<Vec<u8>, AllocError> {

@@ -7,12 +7,8 @@ fn edit(draw: &mut Draw, bytes: &mut [u8]) {
     let i = draw.index(bytes.len());
     let any = (draw.word() & 255) as u8;
     let bit = 1u8 << draw.below(8);
-    if i < bytes.len() {
-        bytes[i] = if draw.below(2) == 0 {
-            bytes[i] ^ bit
-        } else {
-            any
-        };
+    if let Some(byte) = bytes.get_mut(i) {
+        *byte = if draw.below(2) == 0 { *byte ^ bit } else { any };
     }
 }
 
@@ -22,12 +18,12 @@ pub fn damaged(heap: Global, draw: &mut Draw, bytes: &[u8]) -> Result<Vec<u8>, A
     match draw.below(8) {
         0 => out.truncate(draw.index(bytes.len())),
         1 => {
-            for _ in 0..draw.between((1, 9)) {
+            for _ in 0..draw.between(&(1..=9)) {
                 out.push((draw.word() & 255) as u8)?;
             }
         }
         _ => {
-            for _ in 0..draw.between((1, 3)) {
+            for _ in 0..draw.between(&(1..=3)) {
                 edit(draw, out.as_mut_slice());
             }
         }

@@ -1,5 +1,8 @@
 // Random numbers from a seed (splitmix64): the same ones on every machine.
 ghost use Rattle.std.specs.Prelude.{◌≡◌, ◌<◌, ◌≤◌};
+ghost use Rattle.std.specs.Range.{range_inclusive_start, range_inclusive_end};
+
+use std::ops::RangeInclusive;
 
 #[derive(Drop)]
 pub struct Draw {
@@ -39,12 +42,13 @@ impl Draw {
         self.below(n as u64) as usize
     }
 
-    // A number of the range, both ends included; the first where there is none.
-    pub fn between(&mut self, range: (u64, u64)) -> u64
-        ensures low { range.0 ≤ result }
-        ensures high { range.0 ≤ range.1 → result ≤ range.1 }
+    // A number of the range; its start where the range is empty.
+    pub fn between(&mut self, range: &RangeInclusive<u64>) -> u64
+        ensures low { range_inclusive_start range.now ≤ result }
+        ensures high { range_inclusive_start range.now ≤ range_inclusive_end range.now → result ≤ range_inclusive_end range.now }
     {
-        let (low, high) = range;
+        let low = *range.start();
+        let high = *range.end();
         low.saturating_add(self.below(high.saturating_sub(low).saturating_add(1)))
     }
 }

@@ -2,7 +2,10 @@
 use crate::bits::ones;
 use crate::draft::{Draft, Job};
 use crate::draw::Draw;
-use std::alloc::AllocError;
+use std::alloc::AllocFailed;
+
+// What a task needs at most.
+pub(crate) const MOST_UNITS: u32 = 1_000_000;
 
 #[derive(Clone, Copy)]
 pub enum Edit {
@@ -21,11 +24,11 @@ fn newcomer(draw: &mut Draw, hours: usize) -> Job {
             bits: 1 << hours.min(127),
         },
         2 => Job {
-            units: 1_000_001,
+            units: MOST_UNITS + 1,
             bits: 1,
         },
         _ => Job {
-            units: draw.between((0, 1_000_000)) as u32,
+            units: draw.between(&(0..=1_000_000)) as u32,
             bits: row & ones(hours),
         },
     }
@@ -44,36 +47,48 @@ pub fn drawn(draw: &mut Draw, draft: &Draft) -> Edit {
 
 fn fits(draft: &Draft, job: Job) -> bool {
     draft.jobs.len() < 200
-        && job.units <= 1_000_000
+        && job.units <= MOST_UNITS
         && job.bits != 0
         && job.bits & !ones(draft.hours) == 0
 }
 
-// Makes a change; says false, and leaves the night as it is, where it can't be made.
-pub fn make(draft: &mut Draft, edit: Edit) -> Result<bool, AllocError> {
+// Why a change is not made.
+#[derive(Clone, Copy, PartialEq, Eq)]
+pub enum Unmade {
+    // it can't be made of this night
+    Impossible,
+    NoMemory,
+}
+
+impl<T: Drop> From<AllocFailed<T>> for Unmade {
+    fn from(_: AllocFailed<T>) -> Unmade {
+        Unmade::NoMemory
+    }
+}
+
+// Makes a change; leaves the night as it is where it is not made.
+pub fn make(draft: &mut Draft, edit: Edit) -> Result<(), Unmade> {
     match edit {
         Edit::Comes(job) => {
             if !fits(draft, job) {
-                return Ok(false);
+                return Err(Unmade::Impossible);
             }
             draft.jobs.push(job)?;
         }
         Edit::Goes(j) => {
             if j >= draft.jobs.len() {
-                return Ok(false);
+                return Err(Unmade::Impossible);
             }
             let _ = draft.jobs.remove(j);
         }
         Edit::More(j, units) => {
-            let Some(job) = draft.jobs.get_mut(j) else {
-                return Ok(false);
-            };
+            let job = draft.jobs.get_mut(j).ok_or(Unmade::Impossible)?;
             let sum = job.units.saturating_add(units);
-            if sum > 1_000_000 {
-                return Ok(false);
+            if sum > MOST_UNITS {
+                return Err(Unmade::Impossible);
             }
             job.units = sum;
         }
     }
-    Ok(true)
+    Ok(())
 }

@@ -1,19 +1,21 @@
 // Exact sums of fractions over any denominators up to 255.
 
 // A number below 2^2048, enough for the product of 1 to 255: digits of 32 bits, the lowest first.
-#[derive(Clone, Copy)]
+#[derive(Clone, Copy, PartialEq)]
 struct Big {
     digits: [u32; 64],
 }
 
-impl Big {
-    // A number of one digit.
-    fn of(n: u32) -> Big {
+// A number of one digit.
+impl From<u32> for Big {
+    fn from(n: u32) -> Big {
         let mut digits = [0; 64];
         digits[0] = n;
         Big { digits }
     }
+}
 
+impl Big {
     // Multiplies by a number, then adds so many times another.
     fn times_plus(&mut self, by: u32, other: &Big, times: u32) {
         let mut carry: u64 = 0;
@@ -49,10 +51,10 @@ impl Amounts {
     // Whether the sum of all is num over den: whole units are counted by themselves, what is left is brought over the
     // product of the denominators.
     pub fn are(&self, num: u64, den: u8) -> bool {
-        let zero = Big::of(0);
+        let zero = Big::from(0);
         let mut whole: u128 = 0;
         let mut top = zero;
-        let mut bottom = Big::of(1);
+        let mut bottom = Big::from(1);
         for (d, sum) in self.sums.iter().enumerate() {
             if d == 0 || *sum == 0 {
                 continue;
@@ -71,6 +73,6 @@ impl Amounts {
         }
         top.times_plus(u32::from(den), &zero, 0);
         bottom.times_plus((rest & 0xffff) as u32, &zero, 0);
-        top.digits == bottom.digits
+        top == bottom
     }
 }

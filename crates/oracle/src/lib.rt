@@ -1,6 +1,7 @@
 // Slow and plain ways to do what the other crates do, and random nights to try both on. They share no code and no contract with those crates:
 // what they answer is compared, and no proof cites it. A contract that pinned a slow way would be that way written again, so such functions
-// are kept small, and the check proves of them that they are safe and end; the few on which all of them stand have contracts.
+// are kept small, and the check proves of them that they are safe and end; the few on which all of them stand have contracts,
+// and the steps that find a group say that it is of the tasks and hours that they are given.
 #![tactic(auto)]
 
 pub mod bits;

@@ -1,32 +1,31 @@
 // A sheet as the trial holds it, and a plain checker of it.
-ghost use Rattle.std.specs.Prelude.{◌≡◌};
-
 use crate::bits::{has, ones};
-use crate::bytes::{byte, number, row_width, write};
-use crate::cells::{cell, item};
+use crate::bytes::{number, row_width, write};
+use crate::cells::{Row, item};
 use crate::draft::Draft;
 use crate::exact::Amounts;
 use crate::slow::Level;
 use std::alloc::{AllocError, Global};
 
-// What a checker says of a sheet: a number, 0 where it is accepted; a place; and, for 9, two hours.
+// Why a sheet is refused.
 #[derive(Clone, Copy, PartialEq, Eq)]
-pub struct Verdict {
-    pub number: usize,
-    pub place: usize,
-    pub hours: (usize, usize),
+pub enum Wrong {
+    // bytes end too early, at their length, or go on, at the first too many
+    Length(usize),
+    // the load of an hour isn't that of the amounts
+    Load(usize),
+    // a task's amounts don't add up, or its group is missing or has no hour
+    Task(usize),
+    // a task is done in the first hour, though less lies in the second, in which it may be done
+    Uneven(usize, usize, usize),
 }
 
-impl Verdict {
-    pub fn at(number: usize, place: usize) -> Verdict
-        ensures { (result.number ≡ number) × (result.place ≡ place) }
-    {
-        Verdict {
-            number,
-            place,
-            hours: (0, 0),
-        }
-    }
+// What a sheet says of a task.
+#[derive(Clone, Copy)]
+pub struct Share {
+    pub group: u8,
+    // 0 where the task may not be done
+    pub amounts: Row,
 }
 
 #[derive(Drop)]
@@ -35,10 +34,8 @@ pub struct Paper {
     pub loads: Vec<Level>,
     // the groups' hours
     pub groups: Vec<u128>,
-    // the tasks' groups
-    pub of: Vec<u8>,
-    // the amounts, a row of 96 for each task, 0 where it may not be done
-    pub amounts: Vec<u64>,
+    // by task
+    pub shares: Vec<Share>,
 }
 
 // Reads one number after another.
@@ -62,6 +59,29 @@ impl Reader<'_> {
         self.at = at.saturating_add(row_width(hours));
         number(self.bytes, at, row_width(hours))
     }
+
+    // What is said of a task with these hours.
+    fn share(&mut self, bits: u128) -> Share {
+        let group = (self.next(1) & 255) as u8;
+        let mut amounts = [0; 96];
+        for (s, x) in amounts.iter_mut().enumerate() {
+            if has(bits, s) {
+                *x = self.next(8);
+            }
+        }
+        Share { group, amounts }
+    }
+}
+
+impl Share {
+    // Whether the amounts over a denominator add up to the units.
+    fn is_whole(&self, units: u32, over: u8) -> bool {
+        let sum = self
+            .amounts
+            .iter()
+            .fold(0u128, |sum, x| sum.saturating_add(u128::from(*x)));
+        over != 0 && sum == u128::from(units) * u128::from(over)
+    }
 }
 
 impl Paper {
@@ -69,8 +89,7 @@ impl Paper {
         Paper {
             loads: Vec::new(heap),
             groups: Vec::new(heap),
-            of: Vec::new(heap),
-            amounts: Vec::new(heap),
+            shares: Vec::new(heap),
         }
     }
 
@@ -89,12 +108,7 @@ impl Paper {
             paper.groups.push(reader.row(draft.hours))?;
         }
         for job in draft.jobs.iter() {
-            paper.of.push((reader.next(1) & 255) as u8)?;
-            for s in 0..96usize {
-                paper
-                    .amounts
-                    .push(if has(job.bits, s) { reader.next(8) } else { 0 })?;
-            }
+            paper.shares.push(reader.share(job.bits))?;
         }
         Ok(paper)
     }
@@ -110,31 +124,45 @@ impl Paper {
         for bits in self.groups.iter() {
             write(&mut out, *bits, row_width(draft.hours))?;
         }
-        for (j, job) in draft.jobs.iter().enumerate() {
-            out.push(byte(self.of.as_slice(), j))?;
-            for s in 0..96usize {
+        for (job, share) in draft.jobs.iter().zip(self.shares.iter()) {
+            out.push(share.group)?;
+            for (s, x) in share.amounts.iter().enumerate() {
                 if has(job.bits, s) {
-                    write(
-                        &mut out,
-                        u128::from(item(self.amounts.as_slice(), cell(j, s))),
-                        8,
-                    )?;
+                    write(&mut out, u128::from(*x), 8)?;
                 }
             }
         }
         Ok(out)
     }
 
-    fn load(&self, s: usize) -> Level {
-        match self.loads.get(s) {
-            Some(load) => *load,
-            None => Level { units: 0, hours: 0 },
+    // What is done of a task in an hour.
+    pub(crate) fn amount(&self, j: usize, s: usize) -> u64 {
+        match self.shares.get(j) {
+            Some(share) => item(&share.amounts, s),
+            None => 0,
         }
     }
 
+    // Adds to what is done of a task in an hour, and wraps around.
+    pub(crate) fn add(&mut self, j: usize, s: usize, by: u64) {
+        if let Some(share) = self.shares.get_mut(j) {
+            if let Some(x) = share.amounts.get_mut(s) {
+                *x = x.wrapping_add(by);
+            }
+        }
+    }
+
+    fn load(&self, s: usize) -> Level {
+        self.loads
+            .get(s)
+            .copied()
+            .unwrap_or(Level { units: 0, hours: 0 })
+    }
+
     // The denominator of a task's amounts: that of the first hour of its group; 0 where there is none.
-    pub fn over(&self, draft: &Draft, j: usize) -> u8 {
-        match self.groups.get(byte(self.of.as_slice(), j) as usize) {
+    // No Option: a sheet may say 0 itself, and either way there is no amount.
+    pub fn over(&self, draft: &Draft, share: &Share) -> u8 {
+        match self.groups.get(usize::from(share.group)) {
             Some(row) if *row & ones(draft.hours) != 0 => {
                 (self.load(row.trailing_zeros() as usize).hours & 255) as u8
             }
@@ -148,42 +176,39 @@ impl Paper {
         heap: Global,
         draft: &Draft,
         parts: u64,
-    ) -> Result<Vec<u64>, AllocError> {
+    ) -> Result<Vec<Row>, AllocError> {
         let mut out = Vec::new(heap);
-        for j in 0..draft.jobs.len() {
-            let by = parts / u64::from(self.over(draft, j)).max(1);
-            for s in 0..96usize {
-                out.push(item(self.amounts.as_slice(), cell(j, s)).saturating_mul(by))?;
-            }
+        for share in self.shares.iter() {
+            let by = parts / u64::from(self.over(draft, share)).max(1);
+            out.push(share.amounts.map(|x| x.saturating_mul(by)))?;
         }
         Ok(out)
     }
 
     // Whether an hour's load is that of the amounts.
-    fn is_loaded(&self, overs: &[u8], s: usize) -> bool {
+    fn is_loaded(&self, draft: &Draft, s: usize) -> bool {
         let mut lies = Amounts::NONE;
-        for (j, over) in overs.iter().enumerate() {
-            lies.add(item(self.amounts.as_slice(), cell(j, s)), *over);
+        for share in self.shares.iter() {
+            let amount = item(&share.amounts, s);
+            if amount > 0 {
+                lies.add(amount, self.over(draft, share));
+            }
         }
         let load = self.load(s);
         load.hours != 0 && lies.are(load.units, (load.hours & 255) as u8)
     }
 
-    // Whether a task's amounts add up to its units.
-    fn is_whole(&self, units: u32, over: u8, j: usize) -> bool {
-        let mut sum: u128 = 0;
-        for s in 0..96usize {
-            sum = sum.saturating_add(u128::from(item(self.amounts.as_slice(), cell(j, s))));
-        }
-        over != 0 && sum == u128::from(units) * u128::from(over)
+    // The first hour of a set in which less lies than in this one.
+    fn emptier(&self, bits: u128, s: usize) -> Option<usize> {
+        let load = self.load(s);
+        (0..96usize).find(|t| has(bits, *t) && self.load(*t).less(load))
     }
 
     // The first two hours of which the task is done in the one, though less lies in the other, in which it may be done.
-    fn uneven(&self, bits: u128, j: usize) -> Option<(usize, usize)> {
-        for s in 0..96usize {
-            for t in 0..96usize {
-                let done = item(self.amounts.as_slice(), cell(j, s)) > 0;
-                if done && has(bits, t) && self.load(t).less(self.load(s)) {
+    fn uneven(&self, bits: u128, share: &Share) -> Option<(usize, usize)> {
+        for (s, x) in share.amounts.iter().enumerate() {
+            if *x > 0 {
+                if let Some(t) = self.emptier(bits, s) {
                     return Some((s, t));
                 }
             }
@@ -192,38 +217,30 @@ impl Paper {
     }
 
     // What is to be said of a sheet of the right length.
-    fn verdict(&self, heap: Global, draft: &Draft) -> Result<Verdict, AllocError> {
-        let mut overs = Vec::new(heap);
-        for j in 0..draft.jobs.len() {
-            overs.push(self.over(draft, j))?;
-        }
+    fn verdict(&self, draft: &Draft) -> Result<(), Wrong> {
         for s in 0..draft.hours {
-            if !self.is_loaded(overs.as_slice(), s) {
-                return Ok(Verdict::at(7, s));
+            if !self.is_loaded(draft, s) {
+                return Err(Wrong::Load(s));
             }
         }
-        for (j, job) in draft.jobs.iter().enumerate() {
-            if !self.is_whole(job.units, byte(overs.as_slice(), j), j) {
-                return Ok(Verdict::at(8, j));
+        for (j, (job, share)) in draft.jobs.iter().zip(self.shares.iter()).enumerate() {
+            if !share.is_whole(job.units, self.over(draft, share)) {
+                return Err(Wrong::Task(j));
             }
         }
-        for (j, job) in draft.jobs.iter().enumerate() {
-            if let Some(hours) = self.uneven(job.bits, j) {
-                return Ok(Verdict {
-                    number: 9,
-                    place: j,
-                    hours,
-                });
+        for (j, (job, share)) in draft.jobs.iter().zip(self.shares.iter()).enumerate() {
+            if let Some((s, t)) = self.uneven(job.bits, share) {
+                return Err(Wrong::Uneven(j, s, t));
             }
         }
-        Ok(Verdict::at(0, 0))
+        Ok(())
     }
 }
 
 // How many bytes a sheet has that begins as these bytes do.
 fn length(draft: &Draft, bytes: &[u8]) -> usize {
     let head = draft.hours.saturating_mul(9);
-    let rows = (byte(bytes, head) as usize).saturating_mul(row_width(draft.hours));
+    let rows = usize::from(item(bytes, head)).saturating_mul(row_width(draft.hours));
     let mut end = head.saturating_add(1).saturating_add(rows);
     for job in draft.jobs.iter() {
         end = end.saturating_add(1 + 8 * job.bits.count_ones() as usize);
@@ -231,11 +248,11 @@ fn length(draft: &Draft, bytes: &[u8]) -> usize {
     end
 }
 
-// What is to be said of bytes as a sheet of the night.
-pub fn checked(heap: Global, draft: &Draft, bytes: &[u8]) -> Result<Verdict, AllocError> {
+// Why bytes are no sheet of the night, if they are none.
+pub fn checked(heap: Global, draft: &Draft, bytes: &[u8]) -> Result<Result<(), Wrong>, AllocError> {
     let end = length(draft, bytes);
     if bytes.len() != end {
-        return Ok(Verdict::at(1, bytes.len().min(end)));
+        return Ok(Err(Wrong::Length(bytes.len().min(end))));
     }
-    Paper::read(heap, draft, bytes)?.verdict(heap, draft)
+    Ok(Paper::read(heap, draft, bytes)?.verdict(draft))
 }

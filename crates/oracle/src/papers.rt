@@ -1,17 +1,17 @@
 // Sheets of any plan, and sheets that are wrong in what they say.
-use crate::cells::{cell, item};
+use crate::cells::{Row, item};
 use crate::draft::Draft;
 use crate::draw::Draw;
 use crate::other::{any_hour, columns};
-use crate::paper::Paper;
+use crate::paper::{Paper, Share};
 use crate::slow::Level;
 use std::alloc::{AllocError, Global};
 
 // By what the denominators of the hours are multiplied: 1 to 4.
-fn factors(draw: &mut Draw) -> [u64; 96] {
+fn factors(draw: &mut Draw) -> Row {
     let mut out = [1; 96];
     for x in out.iter_mut() {
-        *x = draw.between((1, 4));
+        *x = draw.between(&(1..=4));
     }
     out
 }
@@ -23,43 +23,38 @@ pub fn sheet_of(
     draw: &mut Draw,
     draft: &Draft,
     parts: u64,
-    amounts: &[u64],
+    amounts: &[Row],
 ) -> Result<Paper, AllocError> {
     let by = factors(draw);
     let mut paper = Paper::empty(heap);
     let loads = columns(heap, draft, amounts)?;
-    for (s, load) in loads.iter().enumerate() {
-        let more = item(&by, s);
+    for (s, (load, more)) in loads.iter().zip(by.iter()).enumerate() {
         paper.loads.push(Level {
-            units: load.saturating_mul(more),
-            hours: parts.saturating_mul(more),
+            units: load.saturating_mul(*more),
+            hours: parts.saturating_mul(*more),
         })?;
         paper.groups.push(1 << s.min(127))?;
     }
-    for j in 0..draft.jobs.len() {
+    for row in amounts.iter() {
         let g = draw.index(draft.hours);
-        paper.of.push((g & 255) as u8)?;
-        for s in 0..96usize {
-            paper
-                .amounts
-                .push(item(amounts, cell(j, s)).saturating_mul(item(&by, g)))?;
-        }
+        let more = item(&by, g);
+        paper.shares.push(Share {
+            group: (g & 255) as u8,
+            amounts: row.map(|x| x.saturating_mul(more)),
+        })?;
     }
     Ok(paper)
 }
 
-// Takes from one amount what it adds to another; now and then so much that both wrap around.
-fn shift(draw: &mut Draw, amounts: &mut [u64], a: usize, b: usize) {
-    if a < amounts.len() && b < amounts.len() {
-        let x = amounts[a];
-        let by = if draw.below(4) == 0 {
-            1 << 63
-        } else {
-            draw.below(x.saturating_add(1))
-        };
-        amounts[a] = x.wrapping_sub(by);
-        amounts[b] = amounts[b].wrapping_add(by);
-    }
+// Takes from one task's amount of an hour what it adds to another; now and then so much that both wrap around.
+fn shift(draw: &mut Draw, paper: &mut Paper, (j, s): (usize, usize), (i, t): (usize, usize)) {
+    let by = if draw.below(4) == 0 {
+        1 << 63
+    } else {
+        draw.below(paper.amount(j, s).saturating_add(1))
+    };
+    paper.add(j, s, by.wrapping_neg());
+    paper.add(i, t, by);
 }
 
 // Makes a sheet wrong, mostly: amounts moved between tasks or hours, a task of another group, an empty group, another denominator.
@@ -71,12 +66,13 @@ pub fn bend(draw: &mut Draw, draft: &Draft, paper: &mut Paper) {
     };
     let s = any_hour(draw, mine.bits & its.bits);
     let t = any_hour(draw, its.bits);
+    // A match, as the number is drawn: nobody passes a step in.
     match draw.below(6) {
-        0 | 1 => shift(draw, paper.amounts.as_mut_slice(), cell(j, s), cell(i, s)),
-        2 => shift(draw, paper.amounts.as_mut_slice(), cell(j, s), cell(j, t)),
+        0 | 1 => shift(draw, paper, (j, s), (i, s)),
+        2 => shift(draw, paper, (j, s), (j, t)),
         3 => {
-            if let Some(g) = paper.of.get_mut(j) {
-                *g = (draw.word() & 127) as u8;
+            if let Some(share) = paper.shares.get_mut(j) {
+                share.group = (draw.word() & 127) as u8;
             }
         }
         4 => {

@@ -1,8 +1,9 @@
 // The groups of a night by going through all sets of tasks one by one, for nights of few tasks; and the same with a mistake.
 ghost use Rattle.std.specs.Prelude.{◌≡◌, ℕ, ◌*◌, ◌<◌, true, length, ◌==◌, nat_lt, slice_index_or};
 ghost use Rattle.oracle.specs.Levels.{Same, none};
+ghost use Rattle.oracle.specs.Sets.{Among};
 
-use crate::bits::{has, ones};
+use crate::bits::{has, ones, within};
 use crate::draft::{Draft, Job};
 use std::alloc::{AllocError, Global};
 use std::num::nearest_u64_to_f32;
@@ -29,6 +30,7 @@ impl Level {
         (self.units as u128) * (other.hours as u128)
     }
 
+    // No == or Ord: a level may be over no hours, and 0 over 0 is the same as every level, which no law of either allows.
     pub fn same(self, other: Level) -> bool
         ensures { result ≡ (self.units * other.hours == other.units * self.hours) }
     {
@@ -44,21 +46,6 @@ impl Level {
     fn rounded(self) -> f32 {
         nearest_u64_to_f32(self.units) / nearest_u64_to_f32(self.hours)
     }
-}
-
-// How the next group is found among the sets of the tasks that are left.
-#[derive(Clone, Copy)]
-pub enum Way {
-    // the densest set, of equals the one with the most hours: this is right
-    Densest,
-    // the densest set, of equals the one with the fewest hours
-    Fewest,
-    // the densest set, where floats say which is denser
-    Floats,
-    // cut off what weighs most above the level of all, and go on with it until all fit: this is right too
-    Cut,
-    // cut, and go on with the other side
-    OtherSide,
 }
 
 // Tasks, as bits, with their units and those of the hours left in which at least one of them may be done.
@@ -77,18 +64,23 @@ impl Set {
         }
     }
 
-    // Whether it comes before a set that was met earlier.
-    fn beats(self, other: Set, way: Way) -> bool {
-        let mine = self.level();
-        let its = other.level();
-        match way {
-            Way::Fewest => its.less(mine) || (its.same(mine) && mine.hours < its.hours),
-            Way::Floats => {
-                its.rounded() < mine.rounded()
-                    || (its.rounded() == mine.rounded() && its.hours <= mine.hours)
-            }
-            _ => its.less(mine) || (its.same(mine) && its.hours <= mine.hours),
-        }
+    // Whether it is denser than another set, or as dense with at least as many hours.
+    fn denser_or_longer(self, other: Set) -> bool {
+        let (mine, its) = (self.level(), other.level());
+        its.less(mine) || (its.same(mine) && its.hours <= mine.hours)
+    }
+
+    // Whether it is denser, or as dense with fewer hours.
+    fn denser_or_shorter(self, other: Set) -> bool {
+        let (mine, its) = (self.level(), other.level());
+        its.less(mine) || (its.same(mine) && mine.hours < its.hours)
+    }
+
+    // Whether floats say that it is denser, or as dense with at least as many hours.
+    fn denser_in_floats(self, other: Set) -> bool {
+        let (mine, its) = (self.level(), other.level());
+        its.rounded() < mine.rounded()
+            || (its.rounded() == mine.rounded() && its.hours <= mine.hours)
     }
 
     // Whether it weighs more above a level than another set, or as much with at least as many hours.
@@ -102,53 +94,101 @@ impl Set {
 }
 
 // What the tasks weigh.
-fn weigh(jobs: &[Job], tasks: u128, left: u128) -> Set {
+#[tactic(auto, using(crate::proofs::Sets::and_among_r))]
+fn weigh(jobs: &[Job], tasks: u128, left: u128) -> Set
+    ensures same { result.tasks ≡ tasks }
+    ensures hours { Among result.bits left }
+{
     let mut units: u64 = 0;
     let mut bits: u128 = 0;
     for (j, job) in jobs.iter().enumerate() {
         if has(tasks, j) {
             units = units.saturating_add(u64::from(job.units));
-            bits |= job.bits & left;
+            bits |= job.bits;
         }
     }
-    Set { tasks, units, bits }
+    Set {
+        tasks,
+        units,
+        bits: bits & left,
+    }
 }
 
-// Of the sets of the tasks in `all` the one that comes first, or that weighs most.
-fn best(draft: &Draft, all: Set, left: u128, way: Way) -> Set {
-    let mut best = all;
+// Of the sets of the open tasks the last one that beats those before it, from all of them on.
+fn best<F: Fn(Set, Set) -> bool>(draft: &Draft, open: u128, left: u128, beats: F) -> Set
+    requires { F.IsAlwaysCallable beats }
+    ensures tasks { Among result.tasks «open» }
+    ensures hours { Among result.bits left }
+{
+    let mut best = weigh(draft.jobs.as_slice(), open, left);
     for tasks in 1..sets(draft) {
-        if tasks & !all.tasks != 0 {
-            continue;
-        }
-        let set = weigh(draft.jobs.as_slice(), tasks, left);
-        let first = match way {
-            Way::Cut | Way::OtherSide => set.outweighs(best, all.level()),
-            _ => set.beats(best, way),
-        };
-        if first {
-            best = set;
+        if within(tasks, open) {
+            let set = weigh(draft.jobs.as_slice(), tasks, left);
+            if beats(set, best) {
+                best = set;
+            }
         }
     }
     best
 }
 
-// The next group among the tasks that are open.
-fn next(draft: &Draft, open: u128, left: u128, way: Way) -> Set {
+// The next group: the densest set of the open tasks, of equals the one with the most hours. This is right.
+pub fn densest(draft: &Draft, open: u128, left: u128) -> Set
+    ensures tasks { Among result.tasks «open» }
+    ensures hours { Among result.bits left }
+{
+    best(draft, open, left, Set::denser_or_longer)
+}
+
+// The densest set, of equals the one with the fewest hours: more groups than there are.
+pub fn fewest(draft: &Draft, open: u128, left: u128) -> Set
+    ensures tasks { Among result.tasks «open» }
+    ensures hours { Among result.bits left }
+{
+    best(draft, open, left, Set::denser_or_shorter)
+}
+
+// The densest set, where floats say which is denser: a mistake.
+pub fn floats(draft: &Draft, open: u128, left: u128) -> Set
+    ensures tasks { Among result.tasks «open» }
+    ensures hours { Among result.bits left }
+{
+    best(draft, open, left, Set::denser_in_floats)
+}
+
+// Cuts the open tasks into what weighs most above the level of all and the rest, and goes on with one side until all fit.
+#[tactic(auto, using(crate::proofs::Sets::and_among))]
+fn cut_to<F: Fn(Set) -> u128>(draft: &Draft, open: u128, left: u128, side: F) -> Set
+    requires { F.IsAlwaysCallable side }
+    ensures tasks { Among result.tasks «open» }
+    ensures hours { Among result.bits left }
+{
     let mut all = weigh(draft.jobs.as_slice(), open, left);
     for _ in 0..MOST_JOBS {
-        let set = best(draft, all, left, way);
-        let side = match way {
-            Way::Cut => set.tasks,
-            Way::OtherSide => all.tasks & !set.tasks,
-            _ => return set,
-        };
+        let level = all.level();
+        let set = best(draft, all.tasks, left, |set, old| set.outweighs(old, level));
         if set.tasks == all.tasks {
             break;
         }
-        all = weigh(draft.jobs.as_slice(), side, left);
+        all = weigh(draft.jobs.as_slice(), all.tasks & side(set), left);
     }
     all
+}
+
+// The next group by cuts, each time with what weighs most: this is right too.
+pub fn cut(draft: &Draft, open: u128, left: u128) -> Set
+    ensures tasks { Among result.tasks «open» }
+    ensures hours { Among result.bits left }
+{
+    cut_to(draft, open, left, |set| set.tasks)
+}
+
+// By cuts, each time with the other side: a mistake.
+pub fn other_side(draft: &Draft, open: u128, left: u128) -> Set
+    ensures tasks { Among result.tasks «open» }
+    ensures hours { Among result.bits left }
+{
+    cut_to(draft, open, left, |set| !set.tasks)
 }
 
 // The tasks that have an hour left.
@@ -162,8 +202,14 @@ fn still(jobs: &[Job], open: u128, left: u128) -> u128 {
     tasks
 }
 
-// The groups of a night, in the order of finding.
-pub fn groups(heap: Global, draft: &Draft, way: Way) -> Result<Vec<Set>, AllocError> {
+// The groups of a night, in the order of finding: `next` finds one among the tasks that are open and the hours that are left.
+pub fn groups<F: Fn(&Draft, u128, u128) -> Set>(
+    heap: Global,
+    draft: &Draft,
+    next: F,
+) -> Result<Vec<Set>, AllocError>
+    requires { F.IsAlwaysCallable next }
+{
     let mut out = Vec::new(heap);
     let mut left = ones(draft.hours);
     let mut open = ones(draft.jobs.len());
@@ -171,7 +217,7 @@ pub fn groups(heap: Global, draft: &Draft, way: Way) -> Result<Vec<Set>, AllocEr
         if open == 0 {
             break;
         }
-        let set = next(draft, open, left, way);
+        let set = next(draft, open, left);
         out.push(set)?;
         left &= !set.bits;
         open = still(draft.jobs.as_slice(), open & !set.tasks, left);
@@ -179,19 +225,17 @@ pub fn groups(heap: Global, draft: &Draft, way: Way) -> Result<Vec<Set>, AllocEr
     Ok(out)
 }
 
-// The loads of the hours that groups make: the level of the first group that has the hour, 0 in an hour of none.
-pub fn loads(heap: Global, hours: usize, groups: &[Set]) -> Result<Vec<Level>, AllocError> {
-    let mut out = Vec::new(heap);
-    for s in 0..hours {
-        let mut load = Level { units: 0, hours: 1 };
-        for set in groups.iter().rev() {
-            if has(set.bits, s) {
-                load = set.level();
-            }
-        }
-        out.push(load)?;
+// The level of the first group that has the hour, 0 in an hour of none.
+fn load(groups: &[Set], s: usize) -> Level {
+    match groups.iter().find(|set| has(set.bits, s)) {
+        Some(set) => set.level(),
+        None => Level { units: 0, hours: 1 },
     }
-    Ok(out)
+}
+
+// The loads of the hours that groups make.
+pub fn loads(heap: Global, hours: usize, groups: &[Set]) -> Result<Vec<Level>, AllocError> {
+    (0..hours).map(|s| load(groups, s)).collect(heap)
 }
 
 // Whether the loads are the same in every hour.
@@ -199,13 +243,5 @@ pub fn same_loads(a: &[Level], b: &[Level]) -> bool
     ensures long { result ≡ true → length a.now ≡ length b.now }
     ensures each { result ≡ true → (s : ℕ) → s < length a.now → Same (slice_index_or a.now s none) (slice_index_or b.now s none) }
 {
-    if a.len() != b.len() {
-        return false;
-    }
-    for s in 0..a.len() {
-        if !a[s].same(b[s]) {
-            return false;
-        }
-    }
-    true
+    a.len() == b.len() && a.iter().zip(b.iter()).all(|(x, y)| x.same(*y))
 }

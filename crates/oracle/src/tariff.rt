@@ -40,7 +40,7 @@ impl Tariff {
         for step in self.steps.iter().rev() {
             let from = step.from.saturating_mul(parts);
             let units = load.min(end).saturating_sub(from);
-            cost = cost.saturating_add((units as u128) * (step.price as u128));
+            cost = cost.saturating_add(u128::from(units) * u128::from(step.price));
             end = from;
         }
         cost
@@ -48,10 +48,9 @@ impl Tariff {
 
     // What all hours cost.
     pub fn cost(&self, loads: &[u64], parts: u64) -> u128 {
-        let mut cost: u128 = 0;
-        for load in loads.iter() {
-            cost = cost.saturating_add(self.hour(*load, parts));
-        }
-        cost
+        loads.iter().fold(
+            0u128,
+            |cost, load| cost.saturating_add(self.hour(*load, parts)),
+        )
     }
 }

@@ -1,117 +1,110 @@
 -- Laws of what is drawn.
-use Rattle.std.proofs.Common.{◌≡◌, ℕ, zero, suc, ◌+◌, ◌-◌, ◌*◌, ◌<◌, ◌≤◌, true, false, List, [], ◌∷◌, ◌++◌, length, get_or, drop, Some, None, Option, sym, refl, ap, inl, inr, add-one, arith, drop-cons}
-use Rattle.std.proofs.lemmas.List.{drop_all, append_assoc}
-use Rattle.std.proofs.lemmas.Bool.{cases_Bool, cases_lt, leb-true, le-leb, ltb-true, ltb-false}
+use Rattle.std.proofs.Common.{◌≡◌, ℕ, zero, suc, ◌+◌, ◌-◌, ◌*◌, ◌<◌, ◌≤◌, true, cond, List, [], ◌∷◌, ◌++◌, length, get_or, Some, Option, ◌⊎◌, inl, inr, sym, refl, ap, ◌∙◌, unwrap_or, add-one, position, arith}
+use Rattle.std.proofs.lemmas.List.{append_assoc}
+use Rattle.std.proofs.lemmas.Bool.{leb-true, le-leb}
+use Rattle.std.proofs.lemmas.Iterator.Adapters.{position_from-zero}
+use Rattle.std.specs.List.{position_from, fold, reduce}
+use Rattle.std.specs.Cmp.{ranked}
+use Rattle.std.specs.Ordering.{MatchOrdering, max_by_ordering}
+use Rattle.std.specs.declared.cmp.Ordering.{Ordering}
+use Rattle.std.specs.declared.cmp.Ordering.TheVariants.{Less, Equal, Greater}
 use Rattle.fraction.specs.declared.exact.Fraction.{Fraction}
-use Rattle.fraction.specs.Fraction.{less_than, at_most}
-use Rattle.fraction.proofs.Fractions.{cross_trans}
+use Rattle.fraction.specs.Fraction.{at_most}
+use Rattle.fraction.specs.Order.{fraction_cmp}
+use Rattle.fraction.specs.OrderLaws.{cross_trans}
 use Rattle.sets.specs.declared.hours.Hours.{Hours}
-use Rattle.sets.specs.Hours.{has, blank}
+use Rattle.sets.specs.Hours.{has}
 use Rattle.picture.specs.declared.drawn.Drawn.{Drawn}
 use Rattle.picture.specs.Bars.{Largest, mark_of, bar_line, bar_at}
 use Rattle.picture.specs.Columns.{bar_text, column_at}
 use Rattle.picture.specs.Drawn.{num_at, den_at, group_at, fill_at}
 use Rattle.picture.specs.Length.{bar_length}
 
--- the parts of a load
-pub num_is : (ls : List Fraction) (k : ℕ) (f : Fraction) → k < length ls → f ≡ get_or ls k f → num_at ls k ≡ f.num
-num_is [] k f l e = absurd (omega arith)
-num_is (x ∷ ls) zero f l e = ap (λ (y : Fraction). y.num) (sym e)
-num_is (x ∷ ls) (suc k) f l e = num_is ls k f (omega arith) e
+-- the larger of two loads, as `max` picks it
+abbrev pub larger : Fraction → Fraction → Fraction
+larger a b = max_by_ordering (fraction_cmp a b) a b
 
-pub den_is : (ls : List Fraction) (k : ℕ) (f : Fraction) → k < length ls → f ≡ get_or ls k f → den_at ls k ≡ f.den
-den_is [] k f l e = absurd (omega arith)
-den_is (x ∷ ls) zero f l e = ap (λ (y : Fraction). y.den) (sym e)
-den_is (x ∷ ls) (suc k) f l e = den_is ls k f (omega arith) e
+larger_picks :
+    (a b : Fraction) (o : Ordering) → MatchOrdering o (a.num * b.den < b.num * a.den) (a.num * b.den ≡ b.num * a.den) (b.num * a.den < a.num * b.den) →
+    (let m = max_by_ordering o a b in
+    (a.num * m.den ≤ m.num * a.den) × (b.num * m.den ≤ m.num * b.den) × ((m ≡ a) ⊎ (m ≡ b)))
+larger_picks a b Less h = (omega (arith, h), omega arith, inr refl)
+larger_picks a b Equal h = (omega (arith, h), omega arith, inr refl)
+larger_picks a b Greater h = (omega arith, omega (arith, h), inl refl)
 
-pub num_past : (ls : List Fraction) (k : ℕ) → length ls ≤ k → num_at ls k ≡ 0
-num_past [] k l = refl
-num_past (x ∷ ls) zero l = absurd (omega arith)
-num_past (x ∷ ls) (suc k) l = num_past ls k (omega arith)
+largest_none : (m d : ℕ) → m ≡ 0 → Largest [] m d
+largest_none m d z = record { above = λ k l. absurd (omega arith); among = λ l. absurd (omega arith) }
 
-pub den_past : (ls : List Fraction) (k : ℕ) → length ls ≤ k → den_at ls k ≡ 1
-den_past [] k l = refl
-den_past (x ∷ ls) zero l = absurd (omega arith)
-den_past (x ∷ ls) (suc k) l = den_past ls k (omega arith)
+-- two loads before others, of which the larger, c, stands for both
+under : (x c m : Fraction) → x.num * c.den ≤ c.num * x.den → at_most c.num c.den m.num m.den ≡ true → at_most x.num x.den m.num m.den ≡ true
+under x c m h t = le-leb _ _ (cross_trans x.num x.den c.num c.den m.num m.den c.some h (leb-true _ _ t))
 
--- m / d is the largest of the first k loads
-pub record Sofar (ls : List Fraction) (k m d : ℕ) : Type 0 where
-  pub some : 0 < d
-  pub above : (i : ℕ) → i < k → at_most (num_at ls i) (den_at ls i) m d ≡ true
-  pub among : 0 < m → (i : ℕ) × (i < k) × (num_at ls i ≡ m) × (den_at ls i ≡ d)
+both_under :
+    (ls : List Fraction) (a b c m : Fraction) → a.num * c.den ≤ c.num * a.den → b.num * c.den ≤ c.num * b.den →
+    Largest (c ∷ ls) m.num m.den → (k : ℕ) → k < length (a ∷ b ∷ ls) →
+    at_most (num_at (a ∷ b ∷ ls) k) (den_at (a ∷ b ∷ ls) k) m.num m.den ≡ true
+both_under ls a b c m ha hb s zero l = under a c m ha (s.above 0 (omega arith))
+both_under ls a b c m ha hb s (suc zero) l = under b c m hb (s.above 0 (omega arith))
+both_under ls a b c m ha hb s (suc (suc k)) l = s.above (suc k) (omega arith)
 
-pub sofar_none : (ls : List Fraction) → Sofar ls 0 0 1
-sofar_none ls = record { some = omega arith; above = λ i l. absurd (omega arith); among = λ l. absurd (omega arith) }
+one_of :
+    (ls : List Fraction) (a b c m : Fraction) (k : ℕ) → (c ≡ a) ⊎ (c ≡ b) → k < length (c ∷ ls) →
+    num_at (c ∷ ls) k ≡ m.num → den_at (c ∷ ls) k ≡ m.den →
+    (i : ℕ) × (i < length (a ∷ b ∷ ls)) × (num_at (a ∷ b ∷ ls) i ≡ m.num) × (den_at (a ∷ b ∷ ls) i ≡ m.den)
+one_of ls a b c m zero (inl e) l en ed =
+    (0, omega arith, ap (λ (f : Fraction). f.num) (sym e) ∙ en, ap (λ (f : Fraction). f.den) (sym e) ∙ ed)
+one_of ls a b c m zero (inr e) l en ed =
+    (1, omega arith, ap (λ (f : Fraction). f.num) (sym e) ∙ en, ap (λ (f : Fraction). f.den) (sym e) ∙ ed)
+one_of ls a b c m (suc k) which l en ed = (suc (suc k), omega arith, en, ed)
 
--- a load that is larger
-pub sofar_larger :
-    (ls : List Fraction) (k m d a b : ℕ) → 0 < b → num_at ls k ≡ a → den_at ls k ≡ b → less_than m d a b ≡ true →
-    Sofar ls k m d → Sofar ls (k + 1) a b
-sofar_larger ls k m d a b pos en ed h s =
-    let less : m * b < a * d = ltb-true (m * b) (a * d) h in
+largest_more :
+    (ls : List Fraction) (a b c m : Fraction) → a.num * c.den ≤ c.num * a.den → b.num * c.den ≤ c.num * b.den →
+    (c ≡ a) ⊎ (c ≡ b) → Largest (c ∷ ls) m.num m.den → Largest (a ∷ b ∷ ls) m.num m.den
+largest_more ls a b c m ha hb which s =
     record {
-      some = pos;
-      above = λ i l.
-          elim (cases_lt i k) [
-            | inl below ↦
-                le-leb _ _ (cross_trans (num_at ls i) (den_at ls i) m d a b s.some (leb-true _ _ (s.above i below)) (omega arith))
-            | inr at ↦
-                let here : i ≡ k = omega arith in
-                rw (here, en, ed) (le-leb (a * b) (a * b) (omega arith))
-          ];
-      among = λ l. (k, omega arith, en, ed);
+      above = both_under ls a b c m ha hb s;
+      among = λ l. (let r = s.among l in one_of ls a b c m r.0 which r.1 r.2 r.3);
     }
 
--- a load that is not
-pub sofar_same :
-    (ls : List Fraction) (k m d a b : ℕ) → num_at ls k ≡ a → den_at ls k ≡ b → less_than m d a b ≡ false → Sofar ls k m d →
-    Sofar ls (k + 1) m d
-sofar_same ls k m d a b en ed h s =
-    let more : a * d ≤ m * b = ltb-false (m * b) (a * d) h in
+one_itself : (a : Fraction) (k : ℕ) → k < 1 → at_most (num_at (a ∷ []) k) (den_at (a ∷ []) k) a.num a.den ≡ true
+one_itself a zero l = le-leb _ _ (omega arith)
+one_itself a (suc k) l = absurd (omega arith)
+
+-- the largest of a load and of others, picked one after the other
+largest_fold : (ls : List Fraction) (a : Fraction) → Largest (a ∷ ls) (fold larger a ls).num (fold larger a ls).den
+largest_fold [] a =
     record {
-      some = s.some;
-      above = λ i l.
-          elim (cases_lt i k) [
-            | inl below ↦ s.above i below
-            | inr at ↦ let here : i ≡ k = omega arith in rw (here, en, ed) (le-leb (a * d) (m * b) more)
-          ];
-      among = λ l. let old = s.among l in (old.0, omega (arith, old.1), old.2, old.3);
+      above = one_itself a;
+      among = λ _. (0, omega arith, refl, refl);
     }
+largest_fold (b ∷ ls) a =
+    let picked = larger_picks a b (fraction_cmp a b) (ranked (a.num * b.den) (b.num * a.den) _ refl) in
+    largest_more ls a b (larger a b) (fold larger (larger a b) ls) picked.0 picked.1 picked.2 (largest_fold ls (larger a b))
 
--- the larger of it and of the next
-pub sofar_more :
-    (ls : List Fraction) (k : ℕ) (most load next : Fraction) → num_at ls k ≡ load.num → den_at ls k ≡ load.den →
-    (less_than most.num most.den load.num load.den ≡ true → next ≡ load) →
-    (less_than most.num most.den load.num load.den ≡ false → next ≡ most) →
-    Sofar ls k most.num most.den → Sofar ls (k + 1) next.num next.den
-sofar_more ls k most load next en ed second first s =
-    elim (cases_Bool (less_than most.num most.den load.num load.den)) [
-      | inl h ↦ rw (second h) (sofar_larger ls k most.num most.den load.num load.den load.some en ed h s)
-      | inr h ↦ rw (first h) (sofar_same ls k most.num most.den load.num load.den en ed h s)
-    ]
+pub largest_is :
+    (ls : List Fraction) (r : Option Fraction) (none m : Fraction) → none.num ≡ 0 → r ≡ reduce larger ls →
+    m ≡ unwrap_or r none → Largest ls m.num m.den
+largest_is [] r none m z e u = rw (u, e) (largest_none none.num none.den z)
+largest_is (a ∷ ls) r none m z e u = rw (u, e) (largest_fold ls a)
 
-pub sofar_all : (ls : List Fraction) (k m d : ℕ) → length ls ≤ k → k ≤ length ls → Sofar ls k m d → Largest ls m d
-sofar_all ls k m d lo hi s =
-    let same : k ≡ length ls = omega arith in
-    record {
-      above = λ i l. s.above i (omega arith);
-      among = λ l. let old = s.among l in (old.0, omega (arith, old.1), old.2, old.3);
-    }
+-- a load read with 0 / 1 beside it for an hour that has none
+pub load_is :
+    (ls : List Fraction) (k : ℕ) (none load : Fraction) → none.num ≡ 0 → none.den ≡ 1 →
+    load ≡ get_or ls k none → (load.num ≡ num_at ls k) × (load.den ≡ den_at ls k)
+load_is [] k none load en ed e = rw e (en, ed)
+load_is (x ∷ ls) zero none load en ed e = rw e (refl, refl)
+load_is (x ∷ ls) (suc k) none load en ed e = load_is ls k none load en ed e
 
--- the first group that has an hour, from group g on
-pub group_hit : (gs : List Hours) (g s : ℕ) → g < length gs → has (get_or gs g blank) s ≡ true → group_at g (drop g gs) s ≡ Some g
+-- the first group that has an hour is at the first place whose hours have it
+group_from : (gs : List Hours) (g s : ℕ) → group_at g gs s ≡ position_from (λ h. has h s) g gs
 unfolding group_at
-group_hit gs g s l e = rw (drop-cons gs g blank l, e)
+group_from [] g s = refl
+group_from (h ∷ gs) g s =
+    ap (λ r. cond (has h s) (Some g) r) (group_from gs (suc g) s)
+    ∙ ap (λ i. cond (has h s) (Some g) (position_from (λ k. has k s) i gs)) (sym (add-one g))
 
-pub group_miss :
-    (gs : List Hours) (g s : ℕ) → g < length gs → has (get_or gs g blank) s ≡ false →
-    group_at g (drop g gs) s ≡ group_at (g + 1) (drop (g + 1) gs) s
-unfolding group_at
-group_miss gs g s l e = rw (add-one, drop-cons gs g blank l, e)
-
-pub group_none : (gs : List Hours) (g s : ℕ) → length gs ≤ g → group_at g (drop g gs) s ≡ None
-unfolding group_at
-group_none gs g s l = rw (drop_all g gs l)
+pub group_is : (gs : List Hours) (s : ℕ) → position (λ h. has h s) gs ≡ group_at 0 gs s
+group_is gs s = position_from-zero (λ h. has h s) gs ∙ sym (group_from gs 0 s)
 
 -- a line that is written in three parts
 pub three_parts :

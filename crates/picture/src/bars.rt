@@ -4,13 +4,13 @@ ghost use Rattle.fraction.specs.Fraction.{fraction_text};
 ghost use Rattle.night.specs.Night.{hours_of};
 ghost use Rattle.picture.specs.Bars.{mark_of, pad, times, bar_line, hour_bars, Lined};
 
-use crate::drawn::{Drawn, group_of, load_of};
+use crate::drawn::Drawn;
 use crate::length::{bar, largest};
 use fraction::Fraction;
 use std::alloc::{AllocError, Global};
 
 // The longest bar.
-const LONG: u64 = 52;
+const LONG: usize = 52;
 
 // What stands above the lines.
 const HEAD: &str =
@@ -33,7 +33,7 @@ fn mark_in(group: Option<usize>) -> &'static str
 }
 
 // A mark, again and again.
-fn write_times(out: &mut String, mark: &str, count: u64) -> Result<(), AllocError>
+fn write_times(out: &mut String, mark: &str, count: usize) -> Result<(), AllocError>
     ensures { OnOk result (string_bytes out.new ≡ string_bytes out.old ++ times count mark.now) }
 {
     for _ in 0..count {
@@ -54,7 +54,7 @@ fn write_bar(
     out: &mut String,
     hour: usize,
     mark: &str,
-    long: u64,
+    long: usize,
     load: Fraction,
 ) -> Result<(), AllocError>
     ensures { OnOk result (string_bytes out.new ≡ string_bytes out.old ++ bar_line hour mark.now long load.num load.den) }
@@ -71,8 +71,8 @@ fn write_bars(out: &mut String, drawn: Drawn, most: Fraction) -> Result<(), Allo
     ensures { OnOk result (string_bytes out.new ≡ string_bytes out.old ++ hour_bars drawn.entry most.num most.den) }
 {
     for s in 0..drawn.night.hours() {
-        let load = load_of(drawn.loads, s);
-        let mark = mark_in(group_of(drawn.groups, s));
+        let load = drawn.load(s);
+        let mark = mark_in(drawn.group(s));
         write_bar(out, s, mark, bar(load, most, LONG), load)?;
     }
     Ok(())

@@ -1,13 +1,12 @@
 // The bars of the hours, and what stands below them.
-ghost use Rattle.std.specs.Prelude.{◌≡◌, ◌<◌, ◌≤◌, ◌++◌, string_bytes, OnOk};
+ghost use Rattle.std.specs.Prelude.{◌≡◌, ◌++◌, string_bytes, OnOk};
 ghost use Rattle.lines.specs.Lines.{concat};
 ghost use Rattle.picture.specs.Columns.{bar_text, column_at};
 ghost use Rattle.picture.specs.Drawn.{fill_at};
 
-use crate::drawn::{Drawn, group_of, load_of};
-use crate::frame::{Area, BASE, Frame, HIGH, LEFT};
+use crate::chart::Chart;
+use crate::frame::{Area, BASE, Frame, LEFT};
 use crate::label::write_head;
-use crate::length::bar;
 use fraction::Fraction;
 use std::alloc::AllocError;
 
@@ -22,9 +21,7 @@ pub fn fill_of(group: Option<usize>) -> usize
 }
 
 // A load above its bar, turned where there is no room.
-fn write_load(out: &mut String, area: Area, load: Fraction) -> Result<(), AllocError>
-    requires { (area.x ≤ 6000) × ((area.wide ≤ 60) × (140 ≤ area.y)) }
-{
+fn write_load(out: &mut String, area: Area, load: Fraction) -> Result<(), AllocError> {
     let (x, y) = (area.x + area.wide / 2, area.y - 5);
     if area.wide >= 30 && load.num() < 1000 && load.den() < 10 {
         writeln!(
@@ -63,60 +60,46 @@ fn write_column(
 }
 
 // The bars of all hours.
-pub fn write_columns(
-    out: &mut String,
-    frame: Frame,
-    drawn: Drawn,
-    most: Fraction,
-) -> Result<(), AllocError>
-    ensures { OnOk result (string_bytes out.new ≡ string_bytes out.old ++ concat frame.hours (column_at drawn.entry frame.column most.num most.den)) }
+pub fn write_columns(out: &mut String, chart: Chart) -> Result<(), AllocError>
+    ensures { OnOk result (string_bytes out.new ≡ string_bytes out.old ++ concat chart.entry.frame.hours (column_at chart.entry.drawn chart.entry.frame.column chart.entry.most.num chart.entry.most.den)) }
 {
-    for s in 0..frame.hours {
-        let load = load_of(drawn.loads, s);
-        let high = bar(load, most, HIGH as u64) as usize;
-        let fill = fill_of(group_of(drawn.groups, s));
-        let area = frame.bar_area(s, high);
-        write_column(out, s, area, load, fill)?;
+    for s in 0..chart.frame.hours {
+        let load = chart.drawn.load(s);
+        let fill = fill_of(chart.drawn.group(s));
+        write_column(out, s, chart.bar_area(s, load), load, fill)?;
     }
     Ok(())
 }
 
 // The loads above the bars, and the line below them.
-pub fn write_loads(
-    out: &mut String,
-    frame: Frame,
-    drawn: Drawn,
-    most: Fraction,
-) -> Result<(), AllocError> {
-    for s in 0..frame.hours {
-        let load = load_of(drawn.loads, s);
-        let high = bar(load, most, HIGH as u64) as usize;
-        write_load(out, frame.bar_area(s, high), load)?;
+pub fn write_loads(out: &mut String, chart: Chart) -> Result<(), AllocError> {
+    for s in 0..chart.frame.hours {
+        let load = chart.drawn.load(s);
+        write_load(out, chart.bar_area(s, load), load)?;
     }
-    let right = frame.right();
+    let right = chart.frame.right();
     writeln!(out, "<path d=\"M{LEFT} {BASE}H{right}\" stroke=\"#222\"/>")
 }
 
 // The numbers of the hours, as many as there is room for.
 pub fn write_hours(out: &mut String, frame: Frame, y: usize) -> Result<(), AllocError> {
     let apart = if frame.column < 20 { 4 } else { 1 };
-    for s in 0..frame.hours {
-        if s % apart == 0 {
-            let x = frame.x(s) + frame.column / 2;
-            writeln!(
-                out,
-                "<text x=\"{x}\" y=\"{y}\" text-anchor=\"middle\">{s}</text>"
-            )?;
-        }
+    for s in (0..frame.hours).step_by(apart) {
+        let x = frame.x(s) + frame.column / 2;
+        writeln!(
+            out,
+            "<text x=\"{x}\" y=\"{y}\" text-anchor=\"middle\">{s}</text>"
+        )?;
     }
     Ok(())
 }
 
 // The numbers of the groups of the hours, turned where columns are narrow.
-fn write_groups(out: &mut String, frame: Frame, drawn: Drawn) -> Result<(), AllocError> {
+fn write_groups(out: &mut String, chart: Chart) -> Result<(), AllocError> {
+    let frame = chart.frame;
     let (y, high) = (BASE + 33, BASE + 24);
     for s in 0..frame.hours {
-        if let Some(g) = group_of(drawn.groups, s) {
+        if let Some(g) = chart.drawn.group(s) {
             let x = frame.x(s) + frame.column / 2;
             if frame.column < 20 {
                 let x = x + 3;
@@ -136,9 +119,9 @@ fn write_groups(out: &mut String, frame: Frame, drawn: Drawn) -> Result<(), Allo
 }
 
 // The numbers of the hours and of their groups.
-pub fn write_numbers(out: &mut String, frame: Frame, drawn: Drawn) -> Result<(), AllocError> {
+pub fn write_numbers(out: &mut String, chart: Chart) -> Result<(), AllocError> {
     write_head(out, LEFT - 10, BASE + 16, "end", "hour")?;
-    write_hours(out, frame, BASE + 16)?;
+    write_hours(out, chart.frame, BASE + 16)?;
     write_head(out, LEFT - 10, BASE + 33, "end", "group")?;
-    write_groups(out, frame, drawn)
+    write_groups(out, chart)
 }

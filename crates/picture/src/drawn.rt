@@ -19,42 +19,44 @@ pub struct Drawn<'a> {
     pub groups: &'a [Hours],
     // by task: the denominator of its amounts
     pub parts: &'a [u64],
-    // by task, in rows of 96: what is done of it in each hour
+    // by task, in rows of 96, as planning lends them: what is done of it in each hour
     pub amounts: &'a [u64],
 }
 
-// The load of hour s.
-pub(crate) fn load_of(loads: &[Fraction], s: usize) -> Fraction
-    ensures { (result.num ≡ num_at loads.now s) × (result.den ≡ den_at loads.now s) }
-{
-    if s < loads.len() {
-        loads[s]
-    } else {
-        Fraction::zero()
-    }
-}
-
-// The group of hour s, if it has one.
-pub(crate) fn group_of(groups: &[Hours], s: usize) -> Option<usize>
-    ensures { result ≡ group_at 0 groups.now s }
-{
-    for g in 0..groups.len() {
-        if groups[g].contains(s) {
-            return Some(g);
+impl Drawn<'_> {
+    // The name of task j. (`text` has the same lines: neither crate stands on the other.) A match, since `map_or` gets no proof on a field of
+    // another lifetime.
+    pub(crate) fn name(&self, j: usize) -> &str {
+        match self.names.get(j) {
+            Some(name) => name.as_str(),
+            None => "",
         }
     }
-    None
-}
 
-// What of task j is done in hour s, unless that is nothing.
-pub(crate) fn amount_of(drawn: Drawn, j: usize, s: usize) -> Option<Fraction>
-    requires { (j < 200) × (s < 96) }
-    ensures { IfSome result (λ f. Reduced (slice_index drawn.entry.amounts.now (j * 96 + s)) (slice_index drawn.entry.parts.now j) f.num f.den) }
-{
-    let den = *drawn.parts.get(j)?;
-    let num = *drawn.amounts.get(j * MAX_HOURS + s)?;
-    if num == 0 {
-        return None;
+    // The load of hour s.
+    pub(crate) fn load(self, s: usize) -> Fraction
+        ensures { (result.num ≡ num_at self.entry.loads.now s) × (result.den ≡ den_at self.entry.loads.now s) }
+    {
+        self.loads.get(s).copied().unwrap_or(Fraction::zero())
     }
-    Fraction::reduced(num, den)
+
+    // The group of hour s, if it has one.
+    pub(crate) fn group(self, s: usize) -> Option<usize>
+        ensures { result ≡ group_at 0 self.entry.groups.now s }
+    {
+        self.groups.iter().position(|hours| hours.contains(s))
+    }
+
+    // What of task j is done in hour s, unless that is nothing.
+    pub(crate) fn amount(self, j: usize, s: usize) -> Option<Fraction>
+        requires { (j < 200) × (s < 96) }
+        ensures { IfSome result (λ f. Reduced (slice_index self.entry.amounts.now (j * 96 + s)) (slice_index self.entry.parts.now j) f.num f.den) }
+    {
+        let den = *self.parts.get(j)?;
+        let num = *self.amounts.get(j * MAX_HOURS + s)?;
+        if num == 0 {
+            return None;
+        }
+        Fraction::reduced(num, den)
+    }
 }

@@ -27,13 +27,18 @@ pub struct Frame {
     ghost low: { row ≤ 18 },
 }
 
-// A rectangle.
+// A rectangle within the picture, with room for a load above it.
 #[derive(Clone, Copy)]
 pub struct Area {
     pub x: usize,
     pub y: usize,
     pub wide: usize,
     pub high: usize,
+    ghost left: { x ≤ 6000 },
+    ghost room: { 140 ≤ y },
+    ghost above: { y ≤ 6000 },
+    ghost broad: { wide ≤ 6000 },
+    ghost tall: { high ≤ 260 },
 }
 
 // How wide the columns are: narrower where there are more, so that 96 hours take 960.
@@ -117,7 +122,6 @@ impl Frame {
     pub fn bar_area(self, s: usize, high: usize) -> Area
         requires { (s < 96) × (high ≤ 260) }
         ensures place { (result.x ≡ 201 + s * self.column) × (result.wide + 2 ≡ self.column) × (result.y + high ≡ 400) × (result.high ≡ high) }
-        ensures within { (result.x ≤ 6000) × (result.wide ≤ 60) × (140 ≤ result.y) }
     {
         Area {
             x: self.x(s) + 1,
@@ -131,7 +135,6 @@ impl Frame {
     pub fn run_area(self, j: usize, s: usize, end: usize) -> Area
         requires { (j < 200) × ((s ≤ end) × (end ≤ 96)) }
         ensures place { (result.x ≡ 200 + s * self.column) × (result.x + result.wide ≡ 200 + end * self.column) × (result.y ≡ 501 + j * self.row) × (result.high + 2 ≡ self.row) }
-        ensures within { (result.x ≤ 6000) × (result.y ≤ 6000) × (result.high ≤ 60) }
     {
         let x = self.x(s);
         Area {

@@ -1,11 +1,11 @@
 // The level of each group, exactly, beside a line at its height.
 ghost use Rattle.std.specs.Prelude.{◌+◌, ◌≤◌, max, IfOk};
 
+use crate::chart::Chart;
 use crate::columns::fill_of;
-use crate::drawn::{Drawn, load_of};
-use crate::frame::{BASE, Frame, HIGH};
-use crate::length::bar;
+use crate::frame::BASE;
 use fraction::{Fraction, MAX_HOURS};
+use sets::hours::Hours;
 use std::alloc::AllocError;
 
 // A line from an hour to the right at the height of a level, and on to its text where that is near.
@@ -54,26 +54,23 @@ fn write_level(
     )
 }
 
-// The level of group g, not above `free`. Answers where the next may stand.
+// The level of group g, which has these hours, not above `free`. Answers where the next may stand.
 fn write_group(
     out: &mut String,
-    frame: Frame,
-    drawn: Drawn,
-    most: Fraction,
+    chart: Chart,
     g: usize,
+    hours: Hours,
     free: usize,
 ) -> Result<usize, AllocError>
     requires { free ≤ 4000 }
     ensures { IfOk result (λ y. (free ≤ y) × (y ≤ max free 400 + 17)) }
 {
-    let Some(hours) = drawn.groups.get(g) else {
-        return Ok(free);
-    };
     let Some(first) = hours.lowest() else {
         return Ok(free);
     };
-    let level = load_of(drawn.loads, first);
-    let high = BASE - bar(level, most, HIGH as u64) as usize;
+    let frame = chart.frame;
+    let level = chart.drawn.load(first);
+    let high = BASE - chart.high(level);
     let y = high.max(free);
     let right = frame.right();
     write_line(out, frame.x(first.min(frame.hours)), right, high, y)?;
@@ -82,17 +79,14 @@ fn write_group(
 }
 
 // The levels of all groups. Answers where they end.
-pub fn write_levels(
-    out: &mut String,
-    frame: Frame,
-    drawn: Drawn,
-    most: Fraction,
-) -> Result<usize, AllocError>
+pub fn write_levels(out: &mut String, chart: Chart) -> Result<usize, AllocError>
     ensures { IfOk result (λ y. y ≤ 5000) }
 {
     let mut free = 0;
-    for g in 0..MAX_HOURS {
-        free = write_group(out, frame, drawn, most, g, free)?;
+    let groups = chart.drawn.groups;
+    let groups = &groups[..groups.len().min(MAX_HOURS)];
+    for (g, hours) in groups.iter().enumerate() {
+        free = write_group(out, chart, g, *hours, free)?;
     }
     Ok(free)
 }

@@ -2,6 +2,7 @@
 #![tactic(auto)]
 
 pub mod bars;
+mod chart;
 mod columns;
 pub mod drawn;
 pub mod escape;

@@ -2,10 +2,10 @@
 ghost use Rattle.std.specs.Prelude.{◌≡◌, ℕ, ◌<◌, ◌≤◌, true, false};
 ghost use Rattle.sets.specs.Hours.{has};
 
+use crate::chart::Chart;
 use crate::columns::write_hours;
-use crate::drawn::{Drawn, amount_of};
 use crate::escape::escape;
-use crate::frame::{Area, Frame, LEFT, ROWS};
+use crate::frame::{Area, LEFT, ROWS};
 use crate::label::{write_head, write_title};
 use crate::length::bar;
 use fraction::Fraction;
@@ -21,44 +21,13 @@ fn run_end(set: Hours, s: usize, hours: usize) -> usize
     ensures run { (k : ℕ) → s ≤ k → k < result → has set k ≡ true }
     ensures stops { result < hours → has set result ≡ false }
 {
+    // A `find` over the range leaves open that the hours before are in the set.
     for k in s..hours {
         if !set.contains(k) {
             return k;
         }
     }
     hours
-}
-
-// A light bar for each run of hours in which task j may be done.
-fn write_windows(out: &mut String, frame: Frame, set: Hours, j: usize) -> Result<(), AllocError>
-    requires { j < 200 }
-{
-    for s in 0..frame.hours {
-        if set.contains(s) && (s == 0 || !set.contains(s - 1)) {
-            let end = run_end(set, s, frame.hours);
-            let Area { x, y, wide, high } = frame.run_area(j, s, end);
-            writeln!(
-                out,
-                "<rect x=\"{x}\" y=\"{y}\" width=\"{wide}\" height=\"{high}\" rx=\"3\" fill=\"#d3dde8\" stroke=\"#8fa3b8\"/>"
-            )?;
-        }
-    }
-    Ok(())
-}
-
-// The most of task j that is done in an hour.
-fn most_of(drawn: Drawn, hours: usize, j: usize) -> Fraction
-    requires { (hours ≤ 96) × (j < 200) }
-{
-    let mut most = Fraction::zero();
-    for s in 0..hours {
-        if let Some(amount) = amount_of(drawn, j, s) {
-            if most.less(amount) {
-                most = amount;
-            }
-        }
-    }
-    most
 }
 
 // What is done in hour s, dark: with the amount in it where there is room, else as high as it is against the most of the task.
@@ -69,13 +38,13 @@ fn write_amount(
     amount: Fraction,
     most: Fraction,
 ) -> Result<(), AllocError>
-    requires { (area.x ≤ 6000) × ((area.y ≤ 6000) × ((2 ≤ area.wide) × ((area.wide ≤ 60) × (area.high ≤ 60)))) }
+    requires { 2 ≤ area.wide }
 {
     let Area { x, y, wide, high } = area;
     let (x, wide) = (x + 1, wide - 2);
     let fits = wide >= 38 && amount.num() < 10000 && amount.den() < 100;
     let full = if fits { amount } else { most };
-    let long = bar(amount, full, high as u64) as usize;
+    let long = bar(amount, full, high);
     let foot = y + high;
     let top = foot - long;
     writeln!(
@@ -93,69 +62,81 @@ fn write_amount(
     Ok(())
 }
 
-// What is done of task j.
-fn write_amounts(out: &mut String, frame: Frame, drawn: Drawn, j: usize) -> Result<(), AllocError>
-    requires { j < 200 }
-{
-    let most = most_of(drawn, frame.hours, j);
-    for s in 0..frame.hours {
-        if let Some(amount) = amount_of(drawn, j, s) {
-            write_amount(out, s, frame.run_area(j, s, s + 1), amount, most)?;
-        }
-    }
-    Ok(())
-}
-
-// The name of task j and its units.
-fn write_name(
-    heap: Global,
-    out: &mut String,
-    drawn: Drawn,
-    j: usize,
-    units: u32,
-    y: usize,
-) -> Result<(), AllocError> {
-    let name = match drawn.names.get(j) {
-        Some(name) => name.as_str(),
-        None => "",
-    };
-    let name = escape(heap, name)?;
-    let at = LEFT - 10;
-    writeln!(
-        out,
-        "<text x=\"8\" y=\"{y}\" clip-path=\"url(#names)\">{j} {name}<title>{j} {name}</title></text>"
-    )?;
-    writeln!(
-        out,
-        "<text x=\"{at}\" y=\"{y}\" text-anchor=\"end\">{units}</text>"
-    )
-}
-
-// The row of task j.
-fn write_row(
-    heap: Global,
-    out: &mut String,
-    frame: Frame,
-    drawn: Drawn,
+// A task in its row.
+#[derive(Clone, Copy)]
+struct Row<'a> {
+    chart: Chart<'a>,
     j: usize,
     task: Task,
-) -> Result<(), AllocError>
-    requires { j < 200 }
-{
-    let (y, right) = (frame.y(j), frame.right());
-    writeln!(out, "<path d=\"M8 {y}H{right}\" stroke=\"#ececec\"/>")?;
-    write_windows(out, frame, task.hours, j)?;
-    write_amounts(out, frame, drawn, j)?;
-    write_name(heap, out, drawn, j, task.units, y + frame.row - 4)
+    ghost few: { j < 200 },
+}
+
+impl Row<'_> {
+    // A light bar for each run of hours in which the task may be done.
+    fn write_windows(self, out: &mut String) -> Result<(), AllocError> {
+        let (frame, set) = (self.chart.frame, self.task.hours);
+        for s in 0..frame.hours {
+            if set.contains(s) && (s == 0 || !set.contains(s - 1)) {
+                let end = run_end(set, s, frame.hours);
+                let Area { x, y, wide, high } = frame.run_area(self.j, s, end);
+                writeln!(
+                    out,
+                    "<rect x=\"{x}\" y=\"{y}\" width=\"{wide}\" height=\"{high}\" rx=\"3\" fill=\"#d3dde8\" stroke=\"#8fa3b8\"/>"
+                )?;
+            }
+        }
+        Ok(())
+    }
+
+    // The most of the task that is done in an hour.
+    fn most(self) -> Fraction {
+        (0..self.chart.frame.hours)
+            .filter_map(|s| self.chart.drawn.amount(self.j, s))
+            .max()
+            .unwrap_or(Fraction::zero())
+    }
+
+    // What is done of the task.
+    fn write_amounts(self, out: &mut String) -> Result<(), AllocError> {
+        let Chart { drawn, frame, .. } = self.chart;
+        let most = self.most();
+        for s in 0..frame.hours {
+            if let Some(amount) = drawn.amount(self.j, s) {
+                write_amount(out, s, frame.run_area(self.j, s, s + 1), amount, most)?;
+            }
+        }
+        Ok(())
+    }
+
+    // The name of the task and its units.
+    fn write_name(self, heap: Global, out: &mut String) -> Result<(), AllocError> {
+        let frame = self.chart.frame;
+        let name = escape(heap, self.chart.drawn.name(self.j))?;
+        let (j, units) = (self.j, self.task.units);
+        let (at, y) = (LEFT - 10, frame.y(j) + frame.row - 4);
+        writeln!(
+            out,
+            "<text x=\"8\" y=\"{y}\" clip-path=\"url(#names)\">{j} {name}<title>{j} {name}</title></text>"
+        )?;
+        writeln!(
+            out,
+            "<text x=\"{at}\" y=\"{y}\" text-anchor=\"end\">{units}</text>"
+        )
+    }
+
+    // All of the row.
+    fn write(self, heap: Global, out: &mut String) -> Result<(), AllocError> {
+        let frame = self.chart.frame;
+        let (y, right) = (frame.y(self.j), frame.right());
+        writeln!(out, "<path d=\"M8 {y}H{right}\" stroke=\"#ececec\"/>")?;
+        self.write_windows(out)?;
+        self.write_amounts(out)?;
+        self.write_name(heap, out)
+    }
 }
 
 // The rows of all tasks, under a title.
-pub fn write_rows(
-    heap: Global,
-    out: &mut String,
-    frame: Frame,
-    drawn: Drawn,
-) -> Result<(), AllocError> {
+pub fn write_rows(heap: Global, out: &mut String, chart: Chart) -> Result<(), AllocError> {
     write_title(
         out,
         ROWS - 36,
@@ -163,10 +144,10 @@ pub fn write_rows(
     )?;
     write_head(out, 8, ROWS - 8, "start", "task")?;
     write_head(out, LEFT - 10, ROWS - 8, "end", "units")?;
-    write_hours(out, frame, ROWS - 8)?;
-    let tasks = drawn.night.tasks();
-    for j in 0..tasks.len() {
-        write_row(heap, out, frame, drawn, j, tasks[j])?;
+    write_hours(out, chart.frame, ROWS - 8)?;
+    for (j, task) in chart.drawn.night.tasks().iter().enumerate() {
+        let task = *task;
+        Row { chart, j, task }.write(heap, out)?;
     }
     Ok(())
 }

@@ -1,6 +1,6 @@
 // The lines behind the bars: whole units, at most seven of them.
-use crate::frame::{BASE, Frame, HIGH, LEFT};
-use crate::length::bar;
+use crate::chart::Chart;
+use crate::frame::{BASE, HIGH, LEFT};
 use fraction::Fraction;
 use std::alloc::AllocError;
 
@@ -24,17 +24,12 @@ fn step_of(top: u64) -> u64 {
 }
 
 // A line at a number of units.
-fn write_line(
-    out: &mut String,
-    frame: Frame,
-    units: u64,
-    most: Fraction,
-) -> Result<(), AllocError> {
+fn write_line(out: &mut String, chart: Chart, units: u64) -> Result<(), AllocError> {
     let Some(load) = Fraction::whole(units) else {
         return Ok(());
     };
-    let y = BASE - bar(load, most, HIGH as u64) as usize;
-    let (at, below, right) = (LEFT - 6, y + 4, frame.right());
+    let y = BASE - chart.high(load);
+    let (at, below, right) = (LEFT - 6, y + 4, chart.frame.right());
     writeln!(out, "<path d=\"M{LEFT} {y}H{right}\" stroke=\"#d8d8d8\"/>")?;
     writeln!(
         out,
@@ -43,13 +38,13 @@ fn write_line(
 }
 
 // The lines, and what they count.
-pub fn write_scale(out: &mut String, frame: Frame, most: Fraction) -> Result<(), AllocError> {
-    let top = most.num() / most.den();
+pub fn write_scale(out: &mut String, chart: Chart) -> Result<(), AllocError> {
+    let top = chart.most.num() / chart.most.den();
     let step = step_of(top);
     for k in 0..7u64 {
         let units = k.saturating_mul(step);
         if units <= top {
-            write_line(out, frame, units, most)?;
+            write_line(out, chart, units)?;
         }
     }
     let (at, middle) = (LEFT - 90, BASE - HIGH / 2);

@@ -2,15 +2,13 @@
 ghost use Rattle.std.specs.Prelude.{◌+◌, ◌*◌, ◌<◌, IfOk, string_bytes};
 ghost use Rattle.picture.specs.Svg.{Framed};
 
+use crate::chart::Chart;
 use crate::columns::{write_columns, write_loads, write_numbers};
 use crate::drawn::Drawn;
-use crate::frame::Frame;
 use crate::label::write_title;
-use crate::length::largest;
 use crate::levels::write_levels;
 use crate::rows::write_rows;
 use crate::scale::write_scale;
-use fraction::Fraction;
 use std::alloc::{AllocError, Global};
 
 // Eight fillings that differ in colour and, for those who see or print none, in their lines; and a ninth for no group.
@@ -44,51 +42,38 @@ fn write_ground(out: &mut String, width: usize, height: usize) -> Result<(), All
 }
 
 // What lies behind the bars: the ground, the levels and the scale. Answers the height of the picture.
-fn write_behind(
-    heap: Global,
-    out: &mut String,
-    frame: Frame,
-    drawn: Drawn,
-    most: Fraction,
-) -> Result<usize, AllocError>
-    ensures { IfOk result (λ h. 500 + frame.tasks * frame.row < h) }
+fn write_behind(heap: Global, out: &mut String, chart: Chart) -> Result<usize, AllocError>
+    ensures { IfOk result (λ h. 500 + chart.entry.frame.tasks * chart.entry.frame.row < h) }
 {
     let mut levels = String::new(heap);
-    let end = write_levels(&mut levels, frame, drawn, most)?;
-    let height = frame.height(end);
-    write_ground(out, frame.width(), height)?;
+    let end = write_levels(&mut levels, chart)?;
+    let height = chart.frame.height(end);
+    write_ground(out, chart.frame.width(), height)?;
     write!(out, "{levels}")?;
-    write_scale(out, frame, most)?;
+    write_scale(out, chart)?;
     Ok(height)
 }
 
 // What comes after the bars: loads, numbers and tasks.
-fn write_after(
-    heap: Global,
-    out: &mut String,
-    frame: Frame,
-    drawn: Drawn,
-    most: Fraction,
-) -> Result<(), AllocError> {
-    write_loads(out, frame, drawn, most)?;
-    write_numbers(out, frame, drawn)?;
-    write_rows(heap, out, frame, drawn)
+fn write_after(heap: Global, out: &mut String, chart: Chart) -> Result<(), AllocError> {
+    write_loads(out, chart)?;
+    write_numbers(out, chart)?;
+    write_rows(heap, out, chart)
 }
 
 // A plan as an SVG.
 pub fn svg(heap: Global, drawn: Drawn) -> Result<String, AllocError>
     ensures { IfOk result (λ s. Framed drawn.entry (string_bytes s)) }
 {
-    let frame = Frame::new(drawn.night.hours(), drawn.night.tasks().len());
-    let most = largest(drawn.loads);
+    let chart = Chart::new(drawn);
     let mut behind = String::new(heap);
-    let height = write_behind(heap, &mut behind, frame, drawn, most)?;
+    let height = write_behind(heap, &mut behind, chart)?;
     let mut bars = String::new(heap);
-    write_columns(&mut bars, frame, drawn, most)?;
+    write_columns(&mut bars, chart)?;
     let mut after = String::new(heap);
-    write_after(heap, &mut after, frame, drawn, most)?;
+    write_after(heap, &mut after, chart)?;
     let body = format!(in heap; "{behind}{bars}{after}")?;
-    let width = frame.width();
+    let width = chart.frame.width();
     let text = format!(in heap;
         "<svg xmlns=\"http://www.w3.org/2000/svg\" width=\"{width}\" height=\"{height}\" viewBox=\"0 0 {width} {height}\" font-family=\"sans-serif\" font-size=\"11\">\n{body}</svg>\n"
     )?;

@@ -1,7 +1,15 @@
 // What the program says of itself.
-pub const VERSION: &str = "plan 1.0.0";
+use console::About;
 
-pub const HELP: &str = "plan [NIGHT [SHEET]] [OPTION]..
+pub const ABOUT: About = About {
+    name: "plan",
+    version: "1.0.0",
+    help: HELP,
+    switches: &["--help", "--version", "--text", "--bars"],
+    options: &["--changes", "--changed", "--svg"],
+};
+
+const HELP: &str = "plan [NIGHT [SHEET]] [OPTION]..
 
 Plans the night in the file NIGHT, or in standard input where none is named or it is -, and prints the load of each hour
 and how much of each task is done in which hour. The plan is the most even one: no plan is cheaper under any tariff that

@@ -3,7 +3,6 @@ use change::evening::Evening;
 use console::words::Words;
 use console::{Fault, write_output};
 use level::levels::Levels;
-use lines::Unprinted;
 use picture::bars::bars;
 use picture::drawn::Drawn;
 use picture::svg::svg;
@@ -18,21 +17,12 @@ pub struct Output {
 
 // By task: the denominator of its amounts.
 fn denominators(heap: Global, levels: &Levels, tasks: usize) -> Result<Vec<u64>, AllocError> {
-    let mut all = Vec::new(heap);
-    for j in 0..tasks.min(200) {
-        let group = levels.of[j].min(95);
-        all.push(levels.levels[group].den())?;
-    }
-    Ok(all)
-}
-
-// The printed lines.
-fn text(rt: &HostRuntime, drawn: Drawn) -> Result<String, Fault> {
-    match lines::plan_text(rt.alloc(), drawn.loads, drawn.parts, drawn.amounts) {
-        Ok(text) => Ok(text),
-        Err(Unprinted::NoMemory) => Err(AllocError.into()),
-        Err(Unprinted::NoPlan) => Err(console::usage(rt, "the plan can't be printed")?),
-    }
+    levels
+        .of
+        .iter()
+        .take(tasks)
+        .map(|group| levels.levels[(*group).min(95)].den())
+        .collect(heap)
 }
 
 // Makes what is printed, lines or bars, and the picture.
@@ -56,7 +46,7 @@ pub fn make<'a>(
     let printed = if words.has("--bars") {
         bars(heap, drawn)?
     } else {
-        text(rt, drawn)?
+        lines::plan_text(heap, drawn.loads, drawn.parts, drawn.amounts)?
     };
     let picture = match words.value("--svg") {
         Some(_) => svg(heap, drawn)?,

@@ -6,15 +6,11 @@ use std::alloc::Global;
 use std::process::Abort;
 use std::test::Fail;
 
-// What task j ships into hour s.
+// What task j ships into hour s. (`flow_tests` has the same few lines: a crate for them would be longer than they are.)
 fn shipped(net: &Net, work: &[u64], j: usize, s: usize) -> u64 {
-    if j >= 200 || s >= 96 {
-        return 0;
-    }
-    if net.marks[j].contains(s) && j * 96 + s < work.len() {
-        work[j * 96 + s]
-    } else {
-        0
+    match (net.marks.get(j), work.chunks_exact(96).nth(j)) {
+        (Some(marks), Some(row)) if marks.contains(s) => row.get(s).copied().unwrap_or(0),
+        _ => 0,
     }
 }
 

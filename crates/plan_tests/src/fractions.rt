@@ -28,7 +28,7 @@ fn ordered(rt: HostRuntime) {
     let a = Fraction::reduced(5, 2).unwrap_or(Fraction::zero());
     let b = Fraction::reduced(8, 3).unwrap_or(Fraction::zero());
     let c = Fraction::reduced(10, 4).unwrap_or(Fraction::zero());
-    assert!(rt; a.less(b) && !b.less(a) && !a.less(c));
-    assert!(rt; a.at_most(b) && !b.at_most(a) && a.at_most(c));
-    assert!(rt; a.same(c) && !a.same(b) && Fraction::zero().less(a));
+    assert!(rt; a < b && !(b < a) && !(a < c));
+    assert!(rt; a <= b && !(b <= a) && a <= c);
+    assert!(rt; a == c && a != b && Fraction::zero() < a);
 }

@@ -24,22 +24,16 @@ pub(crate) const F: Given = (3, &[(1, 0b001), (1, 0b001), (4, 0b111)]);
 pub(crate) const G: Given = (3, &[(4, 0b001), (1, 0b110)]);
 
 fn made(hours: usize, tasks: Vec<Task>) -> Result<Night, Fail> {
-    match Night::new(hours, tasks) {
-        Some(night) => Ok(night),
-        None => Err(Fail::new("no night")),
-    }
+    Ok(Night::new(hours, tasks).ok_or("no night")?)
 }
 
 // The night of these numbers.
 pub(crate) fn night_of(heap: Global, given: Given) -> Result<Night, Fail> {
-    let mut tasks = Vec::new(heap);
-    for (units, bits) in given.1 {
-        tasks.push(Task {
-            units: *units,
-            hours: Hours::from_bits(*bits),
-        })?;
-    }
-    made(given.0, tasks)
+    let tasks = given.1.iter().map(|(units, bits)| Task {
+        units: *units,
+        hours: Hours::from_bits(*bits),
+    });
+    made(given.0, tasks.collect(heap)?)
 }
 
 // 200 tasks of 1,000,000 units in one hour.

@@ -8,14 +8,11 @@ use std::alloc::Global;
 use std::num::nearest_u64_to_f32;
 use std::test::Fail;
 
-// Whether the first loads are these.
+// Whether the first loads are these. (`level_tests` has the same few lines: a crate for them would be longer than they are.)
 fn agree(loads: &[Fraction], wanted: &[(u64, u64)]) -> bool {
-    for s in 0..wanted.len() {
-        if s >= loads.len() || loads[s].num() != wanted[s].0 || loads[s].den() != wanted[s].1 {
-            return false;
-        }
-    }
-    true
+    wanted.len() <= loads.len()
+        && loads.iter().zip(wanted.iter()).all(|(load, (num, den))| load.num() == *num
+            && load.den() == *den)
 }
 
 // The levels of a night.
@@ -46,8 +43,7 @@ fn most_units(rt: HostRuntime) -> Result<(), Fail> {
 fn most_groups(rt: HostRuntime) -> Result<(), Fail> {
     let levels = levels_of(rt.alloc(), &stairs(rt.alloc())?)?;
     assert!(rt; levels.count == 96 && levels.flows == 191);
-    for s in 0..96 {
-        let load = levels.loads[s];
+    for (s, load) in levels.loads.iter().enumerate() {
         assert_eq!(rt; (load.num(), load.den()), (1000 - s as u64, 1));
     }
     Ok(())
@@ -59,13 +55,12 @@ fn most_groups(rt: HostRuntime) -> Result<(), Fail> {
 fn nearest_levels(rt: HostRuntime) -> Result<(), Fail> {
     let levels = levels_of(rt.alloc(), &near(rt.alloc())?)?;
     assert!(rt; levels.count == 2);
-    for s in 0..96 {
+    for (s, load) in levels.loads.iter().enumerate() {
         let wanted = if s < 47 {
             (94_000_024, 47)
         } else {
             (98_000_025, 49)
         };
-        let load = levels.loads[s];
         assert_eq!(rt; (load.num(), load.den()), wanted);
     }
     let dense = nearest_u64_to_f32(94_000_024) / 47.0;

@@ -1,9 +1,10 @@
 // Bytes that are nights and bytes that are none.
 use night::{read, write};
+use refusals::Numbered;
 use std::alloc::{AllocError, Global};
 use std::test::Fail;
 
-// Bytes, and the number and place of their refusal; number 0 where they are a night.
+// Bytes, and the number and place of their refusal, as people are told them; number 0 where they are a night.
 const CASES: [(&[u8], usize, usize); 49] = [
     // bytes are missing, whatever else is wrong
     (&[], 1, 0),
@@ -105,11 +106,11 @@ fn gets(heap: Global, bytes: &[u8], number: usize, place: usize) -> Result<bool,
     }
 }
 
-// The bytes of so many tasks with hour 0, behind the two of a night of one hour.
-fn alike(heap: Global, count: u8) -> Result<Vec<u8>, AllocError> {
-    let mut bytes = vec![in heap; 1, count]?;
+// The bytes of so many equal tasks, behind the two of a night of so many hours.
+fn alike(heap: Global, hours: u8, count: u8, task: &[u8]) -> Result<Vec<u8>, AllocError> {
+    let mut bytes = vec![in heap; hours, count]?;
     for _ in 0..count {
-        bytes.extend_from_slice(&[7, 0, 0, 0, 1])?;
+        bytes.extend_from_slice(task)?;
     }
     Ok(bytes)
 }
@@ -141,10 +142,7 @@ fn last_hours(rt: HostRuntime) -> Result<(), Fail> {
 #[test]
 fn equal_tasks(rt: HostRuntime) -> Result<(), Fail> {
     for (hours, count, task, more, number, place) in ALIKE {
-        let mut bytes = vec![in rt.alloc(); hours, count]?;
-        for _ in 0..count {
-            bytes.extend_from_slice(&task)?;
-        }
+        let mut bytes = alike(rt.alloc(), hours, count, &task)?;
         bytes.extend_from_slice(more)?;
         assert!(rt;
             gets(rt.alloc(), bytes.as_slice(), number, place)?,
@@ -156,9 +154,9 @@ fn equal_tasks(rt: HostRuntime) -> Result<(), Fail> {
 
 #[test]
 fn many_tasks(rt: HostRuntime) -> Result<(), Fail> {
-    let most = alike(rt.alloc(), 200)?;
+    let most = alike(rt.alloc(), 1, 200, &[7, 0, 0, 0, 1])?;
     assert!(rt; gets(rt.alloc(), most.as_slice(), 0, 0)?);
-    let more = alike(rt.alloc(), 201)?;
+    let more = alike(rt.alloc(), 1, 201, &[7, 0, 0, 0, 1])?;
     assert!(rt; gets(rt.alloc(), more.as_slice(), 2, 1)?);
     Ok(())
 }

@@ -1,5 +1,6 @@
 -- Laws of sets of hours.
-use Rattle.std.proofs.Common.{◌≡◌, ℕ, ◌+◌, ◌^◌, ◌<◌, Bool, true, false, cond, not, ◌&&◌, eqb, ltb, Decides, sym, ap, ◌∙◌, inl, inr, arith}
+use Rattle.std.specs.Prelude.{OnSome}
+use Rattle.std.proofs.Common.{Option, None, Some, rules, ◌≡◌, ℕ, ◌+◌, ◌^◌, ◌<◌, Bool, true, false, cond, not, ◌&&◌, eqb, ltb, Decides, sym, ap, ◌∙◌, inl, inr, arith}
 use lib.Count.{ones, count_trailing_zeros}
 use Rattle.std.proofs.lemmas.Bool.Decides.{nat_tests}
 use Rattle.std.proofs.lemmas.Bool.{cases_eq, cases_lt, cases_Bool, both_ways, not-true, eq-eqb, ne_eqb}
@@ -8,6 +9,7 @@ use Rattle.fraction.proofs.Sums.{sum_same, sum_update, any_some, any_none, any_h
 use Rattle.sets.specs.declared.hours.Hours.{Hours}
 use Rattle.sets.specs.Bit.{bit}
 use Rattle.sets.specs.Hours.{has, blank, Lowest}
+use Rattle.sets.specs.Iter.{Takes}
 use Rattle.sets.proofs.Bits.{bit_zero, bit_same, bit_below, ones_size, trailing_before, trailing_at}
 
 -- an hour of a set lies below 128
@@ -69,6 +71,12 @@ pub count_remove :
     (h g : Hours) (i : ℕ) → has h i ≡ true → ((k : ℕ) → has g k ≡ (has h k && not (eqb k i))) →
     size 128 (has g) + 1 ≡ size 128 (has h)
 count_remove h g i m e = size_remove 128 (has h) (has g) i (has_below h i m) m e
+
+-- a number that is taken out of a set leaves fewer
+pub takes_fewer :
+    (n : ℕ) (p q : ℕ → Bool) (r : Option ℕ) → Takes n p r q → OnSome r (size n q < size n p)
+takes_fewer n p q None t = search rules
+takes_fewer n p q (Some i) t = let fewer = size_remove n p q i t.0.below t.0.member t.1 in search rules
 
 pub zero_digit : (n k : ℕ) → n ≡ 0 → bit n k ≡ false
 zero_digit n k z = rw z (bit_zero k)

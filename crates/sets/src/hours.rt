@@ -17,14 +17,14 @@ impl Hours {
         Hours { bits: 0 }
     }
 
-    // The set whose hours are the binary digits of a number that are 1.
+    // The set whose hours are the binary digits of a number that are 1; named as sets of bits have it, where `From` would not say which number.
     pub fn from_bits(bits: u128) -> Hours
         ensures { result.bits ≡ bits }
     {
         Hours { bits }
     }
 
-    // The number whose binary digits are 1 at the hours of the set.
+    // The number whose binary digits are 1 at the hours of the set; named as above.
     pub fn bits(self) -> u128
         ensures { result ≡ self.bits }
     {

@@ -2,3 +2,4 @@
 #![tactic(auto)]
 
 pub mod hours;
+pub mod iter;

@@ -1,9 +1,9 @@
 -- The amounts of a task, hour by hour, and what they add up to.
-use Rattle.std.proofs.Common.{◌≡◌, ℕ, ◌+◌, ◌*◌, ◌/◌, ◌^◌, ◌<◌, ◌≤◌, Bool, true, false, cond, List, get_or, sym, refl, ap, ◌∙◌, inl, inr, mul_assoc, mul_comm, arith}
+use Rattle.std.proofs.Common.{◌≡◌, ℕ, ◌+◌, ◌*◌, ◌/◌, ◌<◌, ◌≤◌, Bool, true, false, cond, List, sym, refl, ap, ◌∙◌, inl, inr, mul_assoc, mul_comm, arith}
 use native.Mathlib.Nat.{eq_of_mul-eq-mul_right}
 use Rattle.std.proofs.lemmas.Bool.{cases_lt}
 use Rattle.fraction.specs.Sum.{sum, size}
-use Rattle.fraction.proofs.Sums.{sum_more, sum_step, sum_bound, sum_mul}
+use Rattle.fraction.proofs.Sums.{sum_more, sum_step, sum_mul}
 use Rattle.even.specs.Day.{Day}
 use Rattle.even.specs.Whole.{whole}
 use Rattle.even.proofs.Shares.{whole_share, whole_some}
@@ -11,7 +11,6 @@ use Rattle.sheet.specs.Layout.{listed}
 use Rattle.sheet.specs.Sheet.{amount, first_of, group, groups, over, plan, start, word}
 use Rattle.sheet.specs.Verdict.{Adds, Loaded}
 use Rattle.sheet.proofs.Places.{over_missing, over_empty, over_some}
-use Rattle.sheet.proofs.Columns.{word_fits}
 
 -- an hour outside of a set, and one of it
 pub size_skip : (s : ℕ) (set : ℕ → Bool) → set s ≡ false → size (s + 1) set ≡ size s set
@@ -35,20 +34,6 @@ listed_skip b p s set m = rw m refl
 pub listed_take :
     (b : List ℕ) (p s at : ℕ) (set : ℕ → Bool) → set s ≡ true → at ≡ p + size s set * 8 → listed b p set s ≡ word b at
 listed_take b p s at set m e = rw (m, e) refl
-
--- amounts are words
-pub listed_fits :
-    (b : List ℕ) (p s : ℕ) (set : ℕ → Bool) → ((i : ℕ) → get_or b i 0 < 2 ^ 8) → listed b p set s < 2 ^ 64
-listed_fits b p s set h = bounded (set s)
-  where
-    bounded : (m : Bool) → cond m (word b (p + size s set * 8)) 0 < 2 ^ 64
-    bounded true = word_fits b (p + size s set * 8) h
-    bounded false = omega arith
-
-pub total_fits :
-    (b : List ℕ) (p n : ℕ) (set : ℕ → Bool) → ((i : ℕ) → get_or b i 0 < 2 ^ 8) → sum n (listed b p set) ≤ n * 2 ^ 64
-total_fits b p n set h =
-    sum_bound n (listed b p set) (2 ^ 64) (λ s l. omega (arith, listed_fits b p s set h))
 
 -- a share of the whole isn't nothing
 pub share_some : (q : ℕ) → 0 < q → q ≤ 255 → 0 < whole / q

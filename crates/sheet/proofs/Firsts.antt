@@ -1,5 +1,5 @@
 -- Laws of the first index that passes a test.
-use Rattle.std.proofs.Common.{◌≡◌, ℕ, zero, suc, ◌+◌, ◌*◌, ◌/◌, ◌%◌, ◌^◌, ◌<◌, min, Bool, true, false, ◌⊎◌, List, get_or, sym, refl, ap, ◌∙◌, inl, inr, arith}
+use Rattle.std.proofs.Common.{◌≡◌, ℕ, zero, suc, ◌+◌, ◌*◌, ◌/◌, ◌%◌, ◌^◌, ◌<◌, ◌≤◌, min, Bool, true, false, ◌⊎◌, List, length, take, drop, get_or, sym, refl, ap, ◌∙◌, inl, inr, arith}
 use lib.Count.{count_trailing_zeros}
 use Rattle.std.proofs.lemmas.Bool.Decides.{nat_tests}
 use Rattle.std.proofs.lemmas.Bool.{both_ways, cases_Bool, cases_eq, cases_lt, lt-ltb}
@@ -8,6 +8,7 @@ use Rattle.sets.specs.Bit.{bit}
 use Rattle.night.specs.Format.{width}
 use Rattle.sets.proofs.Bits.{bit_zero, trailing_before, trailing_at}
 use Rattle.sheet.specs.First.{first}
+use Rattle.sheet.proofs.Chunks.{slice_long, slice_at}
 
 pub first_none : (n : ℕ) (p : ℕ → Bool) → ((i : ℕ) → i < n → p i ≡ false) → first n p ≡ n
 unfolding first
@@ -58,6 +59,25 @@ bits_first b p n k z fits some =
       | inr ge ↦
           (let m : min n (k * 8 + t) ≡ n = omega arith in m ∙ sym (first_none n bits (λ i l. before i (omega arith))))
     ]
+
+-- the same by the bytes of the row alone
+module _ (b : List ℕ) (p n len : ℕ) where
+  pub row_none :
+      width n ≤ len → p + len ≤ length b →
+      ((i : ℕ) → i < length (take len (drop p b)) → get_or (take len (drop p b)) i 0 ≡ 0) →
+      first n (λ i. bit (get_or b (p + i / 8) 0) (i % 8)) ≡ n
+  row_none w h z =
+      bits_none b p n
+      (λ i l. sym (slice_at b p len i (omega arith)) ∙ z i (omega (arith, slice_long b p len h)))
+
+  pub row_first :
+      (k : ℕ) → k < len → ((i : ℕ) → i < k → get_or (take len (drop p b)) i 0 ≡ 0) →
+      get_or (take len (drop p b)) k 0 < 2 ^ 8 → 0 < get_or (take len (drop p b)) k 0 →
+      min n (k * 8 + count_trailing_zeros 8 (get_or (take len (drop p b)) k 0)) ≡ first n (λ i. bit (get_or b (p + i / 8) 0) (i % 8))
+  row_first k l z fits some =
+      let e = slice_at b p len k l in
+      ap (λ v. min n (k * 8 + count_trailing_zeros 8 v)) e
+      ∙ bits_first b p n k (λ i m. sym (slice_at b p len i (omega arith)) ∙ z i m) (omega (arith, e)) (omega (arith, e))
 
 -- the first index that passes is found, or none passes
 first_cases :

@@ -1,8 +1,13 @@
 pub mod Words
 pub mod Firsts
+pub mod Chunks
 pub mod Places
 pub mod Columns
 pub mod ByHour
 pub mod ByTask
 pub mod Slopes
+pub mod Amounts
+pub mod Walks
+pub mod Least
+pub mod Steeps
 pub mod Verdicts

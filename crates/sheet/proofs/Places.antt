@@ -11,6 +11,7 @@ use Rattle.night.proofs.Rows.{has_within}
 use Rattle.night.specs.declared.task.Task.{Task}
 use Rattle.sets.specs.Bit.{bit}
 use Rattle.sheet.specs.First.{first}
+use Rattle.sheet.specs.Layout.{Starts}
 use Rattle.sheet.specs.Verdict.{Sized}
 use Rattle.sheet.specs.Sheet.{den, first_of, group, groups, over, place, row, start, within}
 
@@ -24,6 +25,10 @@ sum_cut n (suc m) f l h =
       | inr ne ↦ omega (arith, h m (omega arith) (omega arith), sum_cut n m f (omega arith) (λ i a b. h i a (omega arith)))
     ]
 
+-- an hour in which a task may be done is one of the night
+pub hour_in : {n : ℕ} {ts : List Task} → Sound n ts → (j : ℕ) → j < length ts → (s : ℕ) → may ts j s ≡ true → s < n
+hour_in {n} {ts} w j l s m = has_within (get_or ts j blank_task).hours n s (w.each j l).2 m
+
 -- a task's row of hours lies within the hours of its night
 pub row_count :
     (n : ℕ) (ts : List Task) (j : ℕ) → Sound n ts → j < length ts →
@@ -32,7 +37,7 @@ row_count n ts j s l =
     sum_cut n 128 (λ i. cond (may ts j i) 1 0) (omega (arith, s.short))
     (λ i a b.
     elim (cases_Bool (may ts j i)) [
-      | inl t ↦ absurd (omega (arith, has_within (get_or ts j blank_task).hours n i (s.each j l).2 t))
+      | inl t ↦ absurd (omega (arith, hour_in s j l i t))
       | inr f ↦ rw f refl
     ])
 
@@ -47,10 +52,6 @@ module _ (y : Day) where
     pub start_none : start y b 0 ≡ y.hours * 9 + 1 + groups y b * width y.hours
     unfolding start
     start_none = omega (arith, sum_none (row y))
-
-    pub start_is : (j : ℕ) → start y b j ≡ start y b 0 + sum j (row y)
-    unfolding start
-    start_is j = omega (arith, sum_none (row y))
 
     pub start_more : (j : ℕ) → start y b (j + 1) ≡ start y b j + row y j
     unfolding start
@@ -100,6 +101,9 @@ module _ (y : Day) where
     -- a sheet as long as it has to be has the loads of its hours, its number of groups and its tasks' groups
     pub loads_in : Sized y b → y.hours * 9 < length b
     loads_in e = omega (arith, e, start_none, start_mono 0 y.tasks (omega arith))
+
+    pub load_in : {starts : List ℕ} → Starts y b starts → (s : ℕ) → s < y.hours → s * 9 + 9 ≤ length b
+    load_in w s l = omega (arith, loads_in w.sized)
 
     pub task_in : Sized y b → (j : ℕ) → j < y.tasks → start y b j < length b
     task_in e j l = omega (arith, e, start_end j y.tasks l)

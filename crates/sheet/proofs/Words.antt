@@ -1,8 +1,9 @@
 -- Laws of numbers in words of 64 bits.
-use Rattle.std.proofs.Common.{◌≡◌, ℕ, zero, suc, ◌+◌, ◌-◌, ◌*◌, ◌/◌, ◌^◌, ◌<◌, ◌≤◌, List, [], ◌∷◌, length, get_or, set, sym, refl, ap, ◌∙◌, inl, inr, mul-le-mul_right, div-le_self, arith, lit<, get_or-set_other, get_or-set_same}
+use Rattle.std.proofs.Common.{Decides, Bool, eqb, le_refl, ◌≡◌, ℕ, zero, suc, ◌+◌, ◌-◌, ◌*◌, ◌/◌, ◌^◌, ◌<◌, ◌≤◌, List, [], ◌∷◌, length, get_or, set, sym, refl, ap, ◌∙◌, inl, inr, mul-le-mul_right, div-le_self, arith, lit<, get_or-set_other, get_or-set_same}
 use native.Mathlib.Nat.{eq_of_mul-eq-mul_right}
 use Rattle.std.proofs.lemmas.Nat.{mul-le, div-mul-add}
-use Rattle.std.proofs.lemmas.Bool.{cases_eq}
+use Rattle.std.proofs.lemmas.Bool.{cases_Bool, cases_eq, eq-eqb, ne_eqb}
+use Rattle.std.proofs.lemmas.List.{ext_get_or}
 use Rattle.fraction.specs.Sum.{sum}
 use Rattle.fraction.proofs.Sums.{sum_bound}
 use Rattle.even.specs.Whole.{whole}
@@ -41,12 +42,6 @@ unfolding upto
 upto_same zero l m h = refl
 upto_same (suc n) l m h =
     omega (arith, ap (λ v. v * base n) (h n (omega arith)), upto_same n l m (λ k p. h k (omega arith)))
-
-pub upto_zero : (n : ℕ) (l : List ℕ) → ((k : ℕ) → k < n → get_or l k 0 ≡ 0) → upto n l ≡ 0
-unfolding upto
-upto_zero zero l h = refl
-upto_zero (suc n) l h =
-    omega (arith, ap (λ v. v * base n) (h n (omega arith)), upto_zero n l (λ k p. h k (omega arith)))
 
 -- a word that is set
 pub upto_set :
@@ -90,22 +85,21 @@ pub divide_more :
     out ≡ o + q * b → v ≡ u + left * b + by * out
 divide_more b v u w rest by o q left out h k e = omega (arith, ap (λ z. z * b) k, ap (λ z. by * z) e)
 
--- one word more of a division of words, from the top: word 7 - k
+-- one word more of a division of words, from the top: word k - 1
 pub divide_step :
-    (k : ℕ) (what out : List ℕ) (rest by q left : ℕ) → k < 8 → length out ≡ 8 →
-    value what ≡ upto (8 - k) what + rest * base (8 - k) + by * value out →
-    ((i : ℕ) → i < 8 - k → get_or out i 0 ≡ 0) → q * by + left ≡ rest * 2 ^ 64 + get_or what (7 - k) 0 →
-    value what ≡ upto (8 - (k + 1)) what + left * base (8 - (k + 1)) + by * value (set out (7 - k) q)
-divide_step k what out rest by q left l n v z e =
-    let a : 8 - k ≡ (7 - k) + 1 = omega arith in
-    let b : 8 - (k + 1) ≡ 7 - k = omega arith in
-    let h : value what ≡ (upto (7 - k) what + get_or what (7 - k) 0 * base (7 - k)) + rest * (base (7 - k) * 2 ^ 64) + by * value out =
+    (k : ℕ) (what out : List ℕ) (rest by q left : ℕ) → 0 < k → k ≤ 8 → length out ≡ 8 →
+    value what ≡ upto k what + rest * base k + by * value out →
+    ((i : ℕ) → i < k → get_or out i 0 ≡ 0) → q * by + left ≡ rest * 2 ^ 64 + get_or what (k - 1) 0 →
+    value what ≡ upto (k - 1) what + left * base (k - 1) + by * value (set out (k - 1) q)
+divide_step k what out rest by q left l m n v z e =
+    let a : k ≡ (k - 1) + 1 = omega arith in
+    let h : value what ≡ (upto (k - 1) what + get_or what (k - 1) 0 * base (k - 1)) + rest * (base (k - 1) * 2 ^ 64) + by * value out =
     omega
-    (arith, v, ap (λ m. upto m what) a, upto_more (7 - k) what, ap (λ m. rest * base m) a, ap (λ m. rest * m) (base_more (7 - k))) in
-    let o : value (set out (7 - k) q) ≡ value out + q * base (7 - k) =
+    (arith, v, ap (λ i. upto i what) a, upto_more (k - 1) what, ap (λ i. rest * base i) a, ap (λ w. rest * w) (base_more (k - 1))) in
+    let o : value (set out (k - 1) q) ≡ value out + q * base (k - 1) =
     omega
-    (arith, upto_set 8 out (7 - k) q (omega arith) (omega arith), ap (λ m. m * base (7 - k)) (z (7 - k) (omega arith))) in
-    rw b (divide_more (base (7 - k)) (value what) (upto (7 - k) what) (get_or what (7 - k) 0) rest by (value out) q left _ h e o)
+    (arith, upto_set 8 out (k - 1) q (omega arith) (omega arith), ap (λ w. w * base (k - 1)) (z (k - 1) (omega arith))) in
+    divide_more (base (k - 1)) (value what) (upto (k - 1) what) (get_or what (k - 1) 0) rest by (value out) q left _ h e o
 
 -- the division is done where no word is left
 pub divide_all : (v rest by o : ℕ) → rest < by → v ≡ rest + by * o → o ≡ v / by
@@ -144,6 +138,35 @@ upto_differ i n a b h e fa fb ne same =
     let t : (get_or a i 0 + r.0 * 2 ^ 64) * base i ≡ (get_or b i 0 + s.0 * 2 ^ 64) * base i = omega (arith, r.1, s.1) in
     let u : get_or a i 0 + r.0 * 2 ^ 64 ≡ get_or b i 0 + s.0 * 2 ^ 64 = eq_of_mul-eq-mul_right (base i) (base_some i) _ _ t in
     ne (omega arith)
+
+-- words that write the same number are the same
+module _ (a b : List ℕ) (fa : (i : ℕ) → get_or a i 0 < 2 ^ 64) (fb : (i : ℕ) → get_or b i 0 < 2 ^ 64) where
+  words_same : (n m : ℕ) → upto n a ≡ upto n b → m ≤ n → (k : ℕ) → k < m → get_or a k 0 ≡ get_or b k 0
+  words_same n zero e l k h = absurd (omega arith)
+  words_same n (suc m) e l k h =
+      elim (cases_eq k m) [
+        | inl q ↦
+            rw q
+            (elim (cases_eq (get_or a m 0) (get_or b m 0)) [
+              | inl same ↦ same
+              | inr ne ↦
+                  absurd
+                  (upto_differ m n a b (omega arith) (upto_same m a b (words_same n m e (omega arith))) (fa m) (fb m) ne e)
+            ])
+        | inr ne ↦ words_same n m e (omega arith) k (omega arith)
+      ]
+
+  pub same_value : (r : Bool) → length a ≡ 8 → length b ≡ 8 → Decides r (a ≡ b) → r ≡ eqb (value a) (value b)
+  same_value r la lb d =
+      elim (cases_eq (value a) (value b)) [
+        | inl e ↦
+            d.1 (ext_get_or 0 a b (omega (arith, la, lb)) (λ i l. words_same 8 8 e (le_refl _) i (omega (arith, la, l)))) ∙ sym (eq-eqb _ _ e)
+        | inr ne ↦
+            elim (cases_Bool r) [
+              | inl t ↦ absurd (ne (ap (λ l. value l) (d.0 t)))
+              | inr f ↦ f ∙ sym (ne_eqb _ _ ne)
+            ]
+      ]
 
 -- eight words that are 0
 pub value_zeros : value (0 ∷ 0 ∷ 0 ∷ 0 ∷ 0 ∷ 0 ∷ 0 ∷ 0 ∷ []) ≡ 0

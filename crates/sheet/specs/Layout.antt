@@ -1,5 +1,6 @@
 -- Where the checker finds what it reads. Assumes nothing: these are definitions.
-use Rattle.std.specs.Prelude.{◌≡◌, ℕ, ◌+◌, ◌*◌, ◌/◌, ◌<◌, ◌≤◌, Bool, true, false, cond, List, length, nat_lt, slice_index}
+use Rattle.std.specs.Prelude.{◌≡◌, ℕ, ◌+◌, ◌*◌, ◌/◌, ◌<◌, ◌≤◌, Bool, true, false, cond, List, [], length, get_or, nat_lt, slice_index}
+use Rattle.std.specs.Int.{w64, from_le_bytes}
 use Rattle.fraction.specs.Sum.{size}
 use Rattle.even.specs.Day.{Day}
 use Rattle.even.specs.Whole.{whole}
@@ -18,6 +19,15 @@ pub record Starts (y : Day) (b starts : List ℕ) : Type 0 where
 pub record Overs (y : Day) (b overs : List ℕ) : Type 0 where
   pub long : length overs ≡ 200
   pub each : (j : ℕ) → j < y.tasks → slice_index overs j ≡ over y b j
+
+-- the number that amount k writes
+abbrev pub written : List (List ℕ) → ℕ → ℕ
+written ws k = from_le_bytes w64 (get_or ws k [])
+
+-- the amounts of task j, one for each hour in which it may be done
+pub record Amounts (y : Day) (b : List ℕ) (j : ℕ) (ws : List (List ℕ)) : Type 0 where
+  pub long : length ws ≡ size y.hours (y.may j)
+  pub each : (k : ℕ) → k < length ws → written ws k ≡ word b (start y b j + 1 + k * 8)
 
 -- what task j adds in hour s, in parts of the whole, if its amount stands one byte behind at j and is over the denominator at j
 abbrev pub lies : List Task → List ℕ → List ℕ → List ℕ → ℕ → ℕ → ℕ

@@ -1,5 +1,5 @@
 // Numbers and rows of bits in bytes.
-ghost use Rattle.std.specs.Prelude.{◌≡◌, ◌+◌, ◌/◌, ◌%◌, ◌≤◌, length, slice_index};
+ghost use Rattle.std.specs.Prelude.{◌≡◌, ℕ, ◌+◌, ◌/◌, ◌%◌, ◌<◌, ◌≤◌, length, MatchOption, slice_index};
 ghost use Rattle.sets.specs.Bit.{bit};
 ghost use Rattle.night.specs.Format.{width};
 ghost use Rattle.sheet.specs.First.{first};
@@ -10,19 +10,11 @@ pub(crate) fn word_at(b: &[u8], p: usize) -> u64
     requires { p + 8 ≤ length b.now }
     ensures { result ≡ word b.now p }
 {
-    u64::from_le_bytes([
-        b[p],
-        b[p + 1],
-        b[p + 2],
-        b[p + 3],
-        b[p + 4],
-        b[p + 5],
-        b[p + 6],
-        b[p + 7],
-    ])
+    let (words, _) = b[p..p + 8].as_chunks();
+    u64::from_le_bytes(words[0])
 }
 
-// How many bytes a row of bits takes.
+// How many bytes a row of bits takes. (`night` has such a line of its own, for itself alone.)
 pub fn row_bytes(bits: usize) -> usize
     requires { bits ≤ 96 }
     ensures { result ≡ width bits }
@@ -30,17 +22,21 @@ pub fn row_bytes(bits: usize) -> usize
     (bits + 7) / 8
 }
 
-// The first bit that is 1 in the row of `n` bits from byte `p` on, or `n`.
-pub(crate) fn first_bit(b: &[u8], p: usize, n: usize) -> usize
+// The first byte that is not 0.
+fn first_some(row: &[u8]) -> Option<usize>
+    ensures { MatchOption result ((i : ℕ) → i < length row.now → slice_index row.now i ≡ 0) (λ k. (k < length row.now) × (0 < slice_index row.now k) × ((i : ℕ) → i < k → slice_index row.now i ≡ 0)) }
+{
+    row.iter().position(|byte| *byte != 0)
+}
+
+// The first bit that is 1 in the row of `n` bits from byte `p` on, if there is one.
+pub(crate) fn first_bit(b: &[u8], p: usize, n: usize) -> Option<usize>
     requires n_bound { n ≤ 96 }
     requires n_in_bounds { p + width n ≤ length b.now }
-    ensures { result ≡ first n (λ i. bit (slice_index b.now (p + i / 8)) (i % 8)) }
+    ensures { let at = first n (λ i. bit (slice_index b.now (p + i / 8)) (i % 8)) in MatchOption result (at ≡ n) (λ i. (i < n) × (at ≡ i)) }
 {
-    for k in 0..row_bytes(n) {
-        let byte = b[p + k];
-        if byte != 0 {
-            return n.min(k * 8 + byte.trailing_zeros() as usize);
-        }
-    }
-    n
+    let row = &b[p..p + row_bytes(n)];
+    let k = first_some(row)?;
+    let i = k * 8 + row[k].trailing_zeros() as usize;
+    if i < n { Some(i) } else { None }
 }

@@ -4,11 +4,8 @@ ghost use Rattle.night.specs.Task.{Sound};
 ghost use Rattle.even.specs.DayOf.{day, day_of};
 ghost use Rattle.sheet.specs.Verdict.{Accepted, Refused, Unbeaten, code};
 
-use crate::evenness::levels;
-use crate::layout::{laid, overs};
-use crate::loads::loads;
+use crate::layout::Laid;
 use crate::refusal::Refusal;
-use crate::rows::rows;
 use night::night::Night;
 use night::task::Task;
 
@@ -17,11 +14,11 @@ fn check_tasks(hours: usize, tasks: &[Task], sheet: &[u8]) -> Result<(), Refusal
     requires { Sound hours tasks.now }
     ensures { MatchResult result (λ _. Accepted (day hours tasks.now) sheet.now) (λ e. Refused (day hours tasks.now) sheet.now (code e)) }
 {
-    let starts = laid(hours, tasks, sheet)?;
-    let overs = overs(hours, tasks, sheet, &starts);
-    loads(hours, tasks, sheet, &starts, &overs)?;
-    rows(hours, tasks, sheet, &starts, &overs)?;
-    levels(hours, tasks, sheet, &starts)?;
+    let laid = Laid::new(hours, tasks, sheet)?;
+    let overs = laid.overs();
+    laid.loads(&overs)?;
+    laid.rows(&overs)?;
+    laid.levels()?;
     Ok(())
 }
 

@@ -18,8 +18,9 @@ pub(crate) fn add_times(to: &mut Limbs, by: u64, what: &Limbs) -> u64
     ensures { value to.new + result * base 8 ≡ value to.old + by * value what.now }
 {
     let mut carry: u64 = 0;
-    for i in 0..8 {
-        let (low, high) = fused(by, what[i], to[i], carry);
+    // by index: a word that `iter_mut` lends under `zip` is unknown afterwards
+    for (i, word) in what.iter().enumerate() {
+        let (low, high) = fused(by, *word, to[i], carry);
         to[i] = low;
         carry = high;
     }
@@ -35,9 +36,10 @@ pub(crate) fn divided(what: &Limbs, by: u8) -> Limbs
         return out;
     }
     let mut rest: u64 = 0;
-    for k in 0..8 {
-        let t = rest as u128 * 0x1_0000_0000_0000_0000 + what[7 - k] as u128;
-        out[7 - k] = (t / by as u128) as u64;
+    // by index, as above
+    for k in (0..8).rev() {
+        let t = rest as u128 * 0x1_0000_0000_0000_0000 + what[k] as u128;
+        out[k] = (t / by as u128) as u64;
         rest = (t % by as u128) as u64;
     }
     out
@@ -47,10 +49,5 @@ pub(crate) fn divided(what: &Limbs, by: u8) -> Limbs
 pub(crate) fn same(a: &Limbs, b: &Limbs) -> bool
     ensures { result ≡ (value a.now == value b.now) }
 {
-    for i in 0..8 {
-        if a[i] != b[i] {
-            return false;
-        }
-    }
-    true
+    a == b
 }

@@ -1,6 +1,8 @@
 // Why a sheet is refused.
 ghost use Rattle.std.specs.Prelude.{◌≡◌};
-ghost use Rattle.sheet.specs.Verdict.{code};
+ghost use Rattle.sheet.specs.Verdict.{code as refusal_code};
+
+use refusals::Numbered;
 
 #[derive(Clone, Copy, PartialEq, Eq, Debug)]
 pub enum Refusal {
@@ -14,11 +16,10 @@ pub enum Refusal {
     Uneven(usize, usize, usize),
 }
 
-impl Refusal {
-    // The number of the refusal.
-    pub fn number(self) -> usize
-        ensures { result ≡ (code self).0 }
-    {
+impl Numbered for Refusal {
+    ghost code = { λ e. ((refusal_code e).0, (refusal_code e).1) };
+
+    fn number(self) -> usize {
         match self {
             Refusal::Length(_) => 1,
             Refusal::Load(_) => 7,
@@ -27,19 +28,19 @@ impl Refusal {
         }
     }
 
-    // The place of the refusal: a byte, an hour or a task.
-    pub fn place(self) -> usize
-        ensures { result ≡ (code self).1 }
-    {
+    fn place(self) -> usize {
         match self {
             Refusal::Length(p) | Refusal::Load(p) | Refusal::Task(p) | Refusal::Uneven(p, _, _) =>
                 p,
         }
     }
+}
 
-    // The two hours of a refusal for which there are two: where the task is done, and where less lies.
+impl Refusal {
+    // The two hours of a refusal for which there are two: where the task is done, and where less lies; (0, 0) for the
+    // others, as `code` has it.
     pub fn hours(self) -> (usize, usize)
-        ensures { result ≡ ((code self).2, (code self).3) }
+        ensures { result ≡ ((refusal_code self).2, (refusal_code self).3) }
     {
         match self {
             Refusal::Uneven(_, s, t) => (s, t),

@@ -44,9 +44,7 @@ impl Tally {
         ensures none { self.new.run ≡ 0 }
     {
         let share = divided(&WHOLE, self.over);
-        let mut sum = self.sum;
-        let _ = add_times(&mut sum, self.run, &share);
-        self.sum = sum;
+        let _ = add_times(&mut self.sum, self.run, &share);
         self.run = 0;
     }
 

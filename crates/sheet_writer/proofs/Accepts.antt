@@ -1,5 +1,5 @@
 -- A sheet that says a plan made of groups is accepted.
-use Rattle.std.proofs.Common.{◌≡◌, ℕ, ◌+◌, ◌*◌, ◌/◌, ◌<◌, false, List, length, get_or, take, IfOk, Ok, Err, Result, sym, refl, ap, ◌∙◌, inl, inr, arith, lit<, length-take-le, eq-eqb, eqb-true, MatchResult}
+use Rattle.std.proofs.Common.{◌≡◌, ℕ, ◌+◌, ◌*◌, ◌/◌, ◌<◌, false, List, length, get_or, take, sym, refl, ap, ◌∙◌, inl, inr, arith, lit<, length-take-le, eq-eqb, eqb-true}
 use Rattle.std.proofs.lemmas.Bool.{cases_Bool, cases_lt}
 use Rattle.fraction.specs.declared.exact.Fraction.{Fraction}
 use Rattle.fraction.specs.Sum.{sum}
@@ -17,7 +17,6 @@ use Rattle.night.specs.declared.task.Task.{Task}
 use Rattle.sheet.specs.Sheet.{amount, den, first_of, group, over, plan, row, within}
 use Rattle.sheet.specs.Verdict.{Accepted}
 use Rattle.sheet_writer.specs.Written.{LevelPlan, Says, Wrote, span}
-use Rattle.sheet_writer.specs.declared.refusal.Unwritten.{Unwritten}
 use Rattle.sheet.proofs.Firsts.{first_finds}
 use Rattle.sheet.proofs.Places.{over_some, start_from}
 use Rattle.sheet.proofs.Verdicts.{plan_only}
@@ -124,10 +123,7 @@ module _
 
 -- so what is written of such a plan is accepted
 pub wrote_accepted :
-    (n : ℕ) (ts : List Task) (loads : List Fraction) (rows : List Hours) (k : ℕ) (of a b b' : List ℕ) (r : Result ℕ Unwritten)
-    (other : Unwritten → Type 0) → MatchResult r (Wrote n ts loads rows k of a b b') other →
-    IfOk r
-    (λ v. (num' den' at : ℕ → ℕ) → LevelPlan n ts loads rows k of a num' den' at → Accepted (day n ts) (take v b'))
-wrote_accepted n ts loads rows k of a b b' (Ok v) other w =
-    λ num' den' at p. says_accepted w.says p (length-take-le v b' w.room ∙ w.long)
-wrote_accepted n ts loads rows k of a b b' (Err e) other w = tt
+    {n : ℕ} {ts : List Task} {loads : List Fraction} {rows : List Hours} {k : ℕ} {of a b b' : List ℕ} {v : ℕ}
+    {num' den' at : ℕ → ℕ} → Wrote n ts loads rows k of a b b' v → LevelPlan n ts loads rows k of a num' den' at →
+    Accepted (day n ts) (take v b')
+wrote_accepted {b' = b'} {v = v} w p = says_accepted w.says p (length-take-le v b' w.room ∙ w.long)

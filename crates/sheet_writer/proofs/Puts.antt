@@ -1,35 +1,30 @@
 -- Laws of what is put into bytes.
-use Rattle.std.proofs.Common.{◌≡◌, ℕ, ◌+◌, ◌*◌, ◌/◌, ◌%◌, ◌^◌, ◌<◌, ◌≤◌, Bool, true, false, cond, ◌&&◌, eqb, List, [], ◌∷◌, length, get_or, set, refl, ap, ◌∙◌, inl, inr, arith, get_or-set_other, get_or-set_same, lt-ltb}
-use lib.Bits.{bit_and}
-use Rattle.std.proofs.lemmas.Nat.{shr-shr}
-use Rattle.std.proofs.lemmas.Bool.{cases_lt}
+use Rattle.std.proofs.Common.{◌≡◌, ℕ, zero, suc, ◌+◌, ◌*◌, ◌/◌, ◌%◌, ◌^◌, ◌<◌, ◌≤◌, Bool, true, false, cond, ◌&&◌, eqb, List, length, get_or, set, sym, refl, ap, ◌∙◌, pow-suc, inl, inr, arith, get_or-set_other, lt-ltb}
+use Rattle.std.specs.Int.{bytes_low_first, to_le_bytes, w64, w128}
+use Rattle.std.proofs.lemmas.Nat.{and_mask, from_le_bytes-to_le_bytes_8, pow-add, shr-shr}
+use Rattle.std.proofs.lemmas.Bool.{both_ways, cases_eq}
 use Rattle.fraction.specs.Sum.{size}
+use Rattle.fraction.proofs.Sums.{sum_none}
 use Rattle.sets.specs.Bit.{bit}
 use Rattle.sets.proofs.Bits.{bit_of_and, bit_ones}
 use Rattle.sheet.specs.Layout.{listed}
 use Rattle.sheet.specs.Sheet.{word}
+use Rattle.sheet.proofs.ByTask.{size_skip, size_take, size_room, listed_take}
 use Rattle.sheet_writer.specs.Written.{Kept}
 
--- the eight bytes of a number
-abbrev eight : ℕ → List ℕ
-eight n =
-    n % 256 ∷ n / 256 % 256 ∷ n / 65536 % 256 ∷ n / 16777216 % 256 ∷ n / 4294967296 % 256 ∷ n / 1099511627776 % 256
-    ∷ n / 281474976710656 % 256 ∷ n / 72057594037927936 % 256 ∷ []
-
-sum_of : (n : ℕ) → n < 2 ^ 64 → word (eight n) 0 ≡ n
-unfolding word
-sum_of n l = omega arith
-
--- they write it
+-- the eight bytes of a number write it
 pub word_of :
-    (b w : List ℕ) (p n : ℕ) → n < 2 ^ 64 → w ≡ eight n → ((k : ℕ) → k < 8 → get_or b (p + k) 0 ≡ get_or w k 0) → word b p ≡ n
+    (b w : List ℕ) (p n : ℕ) → n < 2 ^ 64 → w ≡ to_le_bytes w64 n →
+    ((k : ℕ) → k < length w → get_or b (p + k) 0 ≡ get_or w k 0) → word b p ≡ n
 unfolding word
 word_of b w p n l e h =
-    let at : (k : ℕ) → k < 8 → get_or b (p + k) 0 ≡ get_or (eight n) k 0 = λ k m. h k m ∙ ap (λ x. get_or x k 0) e in
+    let long : length w ≡ 8 = ap length e in
+    let at : (k : ℕ) → k < 8 → get_or b (p + k) 0 ≡ get_or (to_le_bytes w64 n) k 0 =
+    λ k m. h k (omega arith) ∙ ap (λ x. get_or x k 0) e in
     let z : p ≡ p + 0 = omega arith in
     let first : get_or b p 0 ≡ n % 256 = ap (λ i. get_or b i 0) z ∙ at 0 (omega arith) in
     omega
-    (arith, sum_of n l, first, at 1 (omega arith), at 2 (omega arith), at 3 (omega arith), at 4 (omega arith), at 5 (omega arith), at 6 (omega arith), at 7 (omega arith))
+    (arith, from_le_bytes-to_le_bytes_8 n l, first, at 1 (omega arith), at 2 (omega arith), at 3 (omega arith), at 4 (omega arith), at 5 (omega arith), at 6 (omega arith), at 7 (omega arith))
 
 -- words, and what is kept
 pub word_same : (b b' : List ℕ) (p : ℕ) → ((i : ℕ) → p ≤ i → i < p + 8 → get_or b' i 0 ≡ get_or b i 0) → word b' p ≡ word b p
@@ -41,25 +36,13 @@ word_same b b' p h =
 pub kept_none : (p q : ℕ) (b : List ℕ) → Kept p q b b
 kept_none p q b = record { before = λ i l. refl; behind = λ i l. refl }
 
-pub kept_more :
-    {p q u v : ℕ} {a b c : List ℕ} → Kept p q a b → Kept u v b c → p ≤ u → v ≤ q → Kept p q a c
-kept_more k m l h =
+-- one range after another, and a range that holds both
+pub kept_join :
+    {p q u v w : ℕ} {a b c : List ℕ} → Kept p u a b → Kept q v b c → p ≤ q → u ≤ w → v ≤ w → Kept p w a c
+kept_join k m l h r =
     record {
       before = λ i t. m.before i (omega arith) ∙ k.before i t;
-      behind = λ i t. m.behind i (omega arith) ∙ k.behind i t;
-    }
-
--- the range that is written may be said to be larger
-pub kept_wide : {p q u v : ℕ} {a b : List ℕ} → Kept u v a b → p ≤ u → v ≤ q → Kept p q a b
-kept_wide m l h =
-    record { before = λ i t. m.before i (omega arith); behind = λ i t. m.behind i (omega arith) }
-
--- ranges one behind the other
-pub kept_join : {p u v : ℕ} {a b c : List ℕ} → Kept p u a b → Kept u v b c → p ≤ u → u ≤ v → Kept p v a c
-kept_join k m l h =
-    record {
-      before = λ i t. m.before i (omega arith) ∙ k.before i t;
-      behind = λ i t. m.behind i t ∙ k.behind i (omega arith);
+      behind = λ i t. m.behind i (omega arith) ∙ k.behind i (omega arith);
     }
 
 -- an amount listed before what is written
@@ -77,31 +60,93 @@ kept_set b p v =
       behind = λ i l. get_or-set_other b p i v 0 (omega arith);
     }
 
--- the binary digits of a number without its lowest byte, and of that byte
-pub bit_shift : (n i : ℕ) → bit (n / 256) i ≡ bit n (8 + i)
-unfolding bit
-bit_shift n i = ap (λ v. eqb (v % 2) 1) (shr-shr n 8 i)
+-- byte k of a number that is written from its byte i on, low byte first
+byte_of : (i k n v : ℕ) → k < n → get_or (bytes_low_first i n v) k 0 ≡ v / 256 ^ (i + k) % 256
+byte_of i k zero v l = absurd (omega arith)
+byte_of zero zero (suc n) v l = let e : v / 256 ^ 0 ≡ v = omega arith in rw e
+byte_of (suc i) zero (suc n) v l = let e : suc i ≡ suc i + 0 = omega arith in ap (λ j. v / 256 ^ j % 256) e
+byte_of i (suc k) (suc n) v l =
+    let e : suc i + k ≡ i + suc k = omega arith in
+    byte_of (suc i) k n v (omega arith) ∙ ap (λ j. v / 256 ^ j % 256) e
 
-pub bit_low : (n i : ℕ) → i < 8 → bit (bit_and n 255) i ≡ bit n i
-bit_low n i l = bit_of_and n 255 i ∙ (ap (λ v. bit n i && v) (bit_ones 8 i ∙ lt-ltb i 8 l) ∙ true_right (bit n i))
+bytes_power : (k : ℕ) → 256 ^ k ≡ 2 ^ (k * 8)
+bytes_power zero = refl
+bytes_power (suc k) =
+    let e : suc k * 8 ≡ k * 8 + 8 = omega arith in
+    omega (arith, pow-suc 256 k, bytes_power k, pow-add 2 (k * 8) 8, ap (λ i. 2 ^ i) e)
+
+-- the binary digits of a number, byte by byte
+byte_bit : (v k i : ℕ) → i < 8 → bit (v / 256 ^ k % 256) i ≡ bit v (k * 8 + i)
+unfolding bit
+byte_bit v k i l =
+    ap (λ x. bit x i) (sym (and_mask (v / 256 ^ k) 8))
+    ∙ bit_of_and (v / 256 ^ k) 255 i
+    ∙ (ap (λ x. bit (v / 256 ^ k) i && x) (bit_ones 8 i ∙ lt-ltb i 8 l) ∙ true_right (bit (v / 256 ^ k) i))
+    ∙ ap (λ x. eqb (x % 2) 1) (ap (λ p. v / p / 2 ^ i) (bytes_power k) ∙ shr-shr v (k * 8) i)
   where
-    true_right : (v : Bool) → (v && true) ≡ v
+    true_right : (x : Bool) → (x && true) ≡ x
     true_right true = refl
     true_right false = refl
 
--- one byte more of a row of bits
-pub bits_more :
-    (b : List ℕ) (p k n r : ℕ) → p + k < length b → ((i : ℕ) → bit r i ≡ bit n (k * 8 + i)) →
-    ((s : ℕ) → s < k * 8 → bit (get_or b (p + s / 8) 0) (s % 8) ≡ bit n s) → (s : ℕ) → s < (k + 1) * 8 →
-    bit (get_or (set b (p + k) (bit_and r 255)) (p + s / 8) 0) (s % 8) ≡ bit n s
-bits_more b p k n r l h f s m =
-    elim (cases_lt s (k * 8)) [
-      | inl t ↦
-          ap (λ v. bit v (s % 8)) (get_or-set_other b (p + k) (p + s / 8) (bit_and r 255) 0 (omega arith)) ∙ f s t
-      | inr ge ↦
-          (let e : s / 8 ≡ k = omega arith in
-          let q : k * 8 + s % 8 ≡ s = omega arith in
-          ap (λ v. bit (get_or (set b (p + k) (bit_and r 255)) (p + v) 0) (s % 8)) e
-          ∙ (ap (λ v. bit v (s % 8)) (get_or-set_same b (p + k) (bit_and r 255) 0 l)
-          ∙ (bit_low r (s % 8) (omega arith) ∙ (h (s % 8) ∙ ap (bit n) q))))
-    ]
+-- digit s of a number is one of its byte s / 8
+pub bit_in_bytes : (v s : ℕ) → s < 128 → bit (get_or (to_le_bytes w128 v) (s / 8) 0) (s % 8) ≡ bit v s
+bit_in_bytes v s l =
+    let e : 0 + s / 8 ≡ s / 8 = omega arith in
+    let q : s / 8 * 8 + s % 8 ≡ s = omega arith in
+    ap (λ x. bit x (s % 8)) (byte_of 0 (s / 8) 16 v (omega arith) ∙ ap (λ k. v / 256 ^ k % 256) e)
+    ∙ byte_bit v (s / 8) (s % 8) (omega arith)
+    ∙ ap (bit v) q
+
+-- the amounts of a row for the hours of a set below n stand from place p on, and end at the place `at`; the other bytes are those of `start`
+pub record RowPut (n p : ℕ) (set : ℕ → Bool) (row : List ℕ) (at : ℕ) (start b : List ℕ) : Type 0 where
+  pub ends : at ≡ p + size n set * 8
+  pub says : (s : ℕ) → s < n → set s ≡ true → listed b p set s ≡ get_or row s 0
+  pub kept : Kept p at start b
+
+pub row_none : (p : ℕ) (set : ℕ → Bool) (row b : List ℕ) → RowPut 0 p set row p b b
+row_none p set row b =
+    record {
+      ends = omega (arith, sum_none (λ i. cond (set i) 1 0));
+      says = λ s l. absurd (omega arith);
+      kept = kept_none p p b;
+    }
+
+-- there is room for the amount of an hour of the set
+pub row_room :
+    {n p : ℕ} {set : ℕ → Bool} {row : List ℕ} {at : ℕ} {start b : List ℕ} (m : ℕ) → RowPut n p set row at start b → n < m →
+    set n ≡ true → at + 8 ≤ p + size m set * 8
+row_room {n} {p} {set} m w l h = omega (arith, w.ends, size_room n m set l h)
+
+-- an hour outside of the set adds nothing
+pub row_skip :
+    {n p : ℕ} {set : ℕ → Bool} {row : List ℕ} {at : ℕ} {start b : List ℕ} → RowPut n p set row at start b → set n ≡ false →
+    RowPut (n + 1) p set row at start b
+row_skip {n} {p} {set} w m =
+    record {
+      ends = omega (arith, w.ends, size_skip n set m);
+      says =
+          λ s l h.
+          elim (cases_eq s n) [
+            | inl e ↦ absurd (both_ways _ m (rw e at h))
+            | inr ne ↦ w.says s (omega arith) h
+          ];
+      kept = w.kept;
+    }
+
+-- one of it adds its amount
+pub row_more :
+    {n p : ℕ} {set : ℕ → Bool} {row : List ℕ} {at : ℕ} {start b b' : List ℕ} → RowPut n p set row at start b → set n ≡ true →
+    word b' at ≡ get_or row n 0 → Kept at (at + 8) b b' → RowPut (n + 1) p set row (at + 8) start b'
+row_more {n} {p} {set} {row} {at} {start} {b} {b'} w m e k =
+    record {
+      ends = omega (arith, w.ends, size_take n set m);
+      says =
+          λ s l h.
+          elim (cases_eq s n) [
+            | inl q ↦ rw q (listed_take b' p n at set m w.ends ∙ e)
+            | inr ne ↦
+                listed_kept b b' p s set (λ i t. k.before i (omega (arith, w.ends, size_room s n set (omega arith) h)))
+                ∙ w.says s (omega arith) h
+          ];
+      kept = kept_join w.kept k (omega (arith, w.ends)) (omega arith) (omega arith);
+    }

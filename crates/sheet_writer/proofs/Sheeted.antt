@@ -1,5 +1,5 @@
 -- The plan of a night goes onto a sheet that is accepted.
-use Rattle.std.proofs.Common.{◌≡◌, ℕ, ◌<◌, ◌≤◌, List, length, get_or, refl, ap, ◌∙◌, inl, inr, mul-le-mul_right, arith}
+use Rattle.std.proofs.Common.{◌≡◌, ℕ, ◌<◌, ◌≤◌, List, length, get_or, refl, ap, ◌∙◌, inl, inr, mul-le-mul_right, arith, IsOk, MatchResult, Result, Ok, Err}
 use Rattle.std.proofs.lemmas.List.{get_or_default}
 use Rattle.std.proofs.lemmas.Bool.{cases_lt, lt-ltb, le-ltb}
 use Rattle.fraction.specs.declared.exact.Fraction.{Fraction}
@@ -12,7 +12,8 @@ use Rattle.level.specs.declared.levels.Levels.{Levels}
 use Rattle.level.specs.Levels.{Solved, hour_group, needed}
 use Rattle.level.specs.Parts.{num, den, nought}
 use Rattle.sheet_writer.specs.Planned.{room}
-use Rattle.sheet_writer.specs.Written.{Fitting, LevelPlan, NotWritten, span}
+use Rattle.sheet_writer.specs.Written.{Fitting, LevelPlan, NotWritten, Wrote, span, why}
+use Rattle.sheet_writer.specs.declared.refusal.Unwritten.{Unwritten}
 
 module _ {night : Night} {r : Levels} {plan plan' work work' : List ℕ} (w : Solved night r plan plan' work work') where
   -- each group has an hour of its own
@@ -74,9 +75,17 @@ module _ {night : Night} {r : Levels} {plan plan' work work' : List ℕ} (w : So
   solved_room = omega (arith, mul-le-mul_right (width (hours_of night)) few_groups)
 
   -- with room for it, it is written
-  pub solved_written :
+  solved_written :
       (sheet : List ℕ) (c : ℕ × ℕ) → needed night ≤ length plan' → room night ≤ length sheet →
       NotWritten (hours_of night) (tasks_of night) r.loads r.count r.of plan' sheet c → ⊥
   solved_written sheet c long wide (inl large) = large.1.wrong solved_fits
   solved_written sheet c long wide (inr (inl plan)) = let s = plan.1.short in omega arith
   solved_written sheet c long wide (inr (inr short)) = let s = short.1.short in omega (arith, solved_room)
+
+  pub solved_is_ok :
+      (sheet sheet' : List ℕ) (r' : Result ℕ Unwritten) → needed night ≤ length plan' → room night ≤ length sheet →
+      MatchResult r'
+      (Wrote (hours_of night) (tasks_of night) r.loads r.groups r.count r.of plan' sheet sheet')
+      (λ e. (sheet' ≡ sheet) × NotWritten (hours_of night) (tasks_of night) r.loads r.count r.of plan' sheet (why e)) → IsOk r'
+  solved_is_ok sheet sheet' (Ok n) long wide m = refl
+  solved_is_ok sheet sheet' (Err e) long wide m = absurd (solved_written sheet (why e) long wide m.1)

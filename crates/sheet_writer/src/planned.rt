@@ -33,6 +33,7 @@ pub fn plan_sheet(
         (λ v. Sheeted night.now v.levels v.length plan.old plan.new work.old work.new sheet.old sheet.new)
         (λ e. Unsheeted night.now e plan.old plan.new work.old work.new sheet.old sheet.new) }
 {
+    // all three before anything is written, the planner's own two again, since a refusal changes nothing
     let need = length_needed(night);
     if plan.len() < need {
         return Err(Short::Plan);
@@ -43,10 +44,8 @@ pub fn plan_sheet(
     if sheet.len() < sheet_room(night) {
         return Err(Short::Sheet);
     }
-    let Ok(levels) = plan_night(night, plan, work) else {
-        return unreachable();
-    };
-    let Ok(length) = write(
+    let levels = plan_night(night, plan, work).unwrap();
+    let length = write(
         night,
         &levels.loads,
         &levels.groups,
@@ -54,8 +53,7 @@ pub fn plan_sheet(
         &levels.of,
         plan,
         sheet,
-    ) else {
-        return unreachable();
-    };
+    )
+    .unwrap();
     Ok(Planned { levels, length })
 }

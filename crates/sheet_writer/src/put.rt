@@ -1,4 +1,4 @@
-// Numbers and rows of bits, put into bytes.
+// Numbers and rows of bits, put into bytes: by place in the whole sheet, since its definitions say of each number where it stands.
 ghost use Rattle.std.specs.Prelude.{◌≡◌, ℕ, ◌+◌, ◌*◌, ◌/◌, ◌%◌, ◌<◌, ◌≤◌, true, length, slice_index};
 ghost use Rattle.fraction.specs.Sum.{size};
 ghost use Rattle.sets.specs.Bit.{bit};
@@ -11,14 +11,13 @@ ghost use Rattle.sheet_writer.specs.Written.{Kept};
 use sets::hours::Hours;
 use sheet::row_bytes;
 
-// Puts eight bytes in the place of those from `p` on.
-fn put_eight(b: &mut [u8], p: usize, bytes: &[u8; 8])
-    requires { p + 8 ≤ length b.old }
-    ensures says { (k : ℕ) → k < 8 → slice_index b.new (p + k) ≡ slice_index bytes.now k }
-    ensures before { (i : ℕ) → i < p → slice_index b.new i ≡ slice_index b.old i }
-    ensures behind { (i : ℕ) → p + 8 ≤ i → slice_index b.new i ≡ slice_index b.old i }
+// Puts bytes in the place of those from `p` on.
+fn put_bytes(b: &mut [u8], p: usize, bytes: &[u8])
+    requires { p + length bytes.now ≤ length b.old }
+    ensures says { (k : ℕ) → k < length bytes.now → slice_index b.new (p + k) ≡ slice_index bytes.now k }
+    ensures kept { Kept p (p + length bytes.now) b.old b.new }
 {
-    b[p..p + 8].copy_from_slice(bytes);
+    b[p..p + bytes.len()].copy_from_slice(bytes);
 }
 
 // Puts a number into the eight bytes from `p` on.
@@ -27,24 +26,24 @@ pub(crate) fn put_word(b: &mut [u8], p: usize, n: u64)
     ensures says { word b.new p ≡ n }
     ensures kept { Kept p (p + 8) b.old b.new }
 {
-    put_eight(b, p, &n.to_le_bytes());
+    put_bytes(b, p, &n.to_le_bytes());
 }
 
-// Puts the amounts for the hours of a set, those of `plan` from `first` on, into the bytes from `p` on.
-pub(crate) fn put_row(b: &mut [u8], p: usize, hours: usize, set: Hours, plan: &[u64], first: usize)
-    requires within { p + size hours (has set) * 8 ≤ length b.old }
-    requires row { first + hours ≤ length plan.now }
-    ensures says { (s : ℕ) → s < hours → has set s ≡ true → listed b.new p (has set) s ≡ slice_index plan.now (first + s) }
-    ensures kept { Kept p (p + size hours (has set) * 8) b.old b.new }
+// Puts the amounts of a row that are those for the hours of a set into the bytes from `p` on. It says where they end.
+pub(crate) fn put_row(b: &mut [u8], p: usize, set: Hours, row: &[u64]) -> usize
+    requires { p + size (length row.now) (has set) * 8 ≤ length b.old }
+    ensures end { result ≡ p + size (length row.now) (has set) * 8 }
+    ensures says { (s : ℕ) → s < length row.now → has set s ≡ true → listed b.new p (has set) s ≡ slice_index row.now s }
+    ensures kept { Kept p (p + size (length row.now) (has set) * 8) b.old b.new }
 {
     let mut at = p;
-    for s in 0..hours {
-        if !set.contains(s) {
-            continue;
+    for (s, amount) in row.iter().enumerate() {
+        if set.contains(s) {
+            put_word(b, at, *amount);
+            at += 8;
         }
-        put_word(b, at, plan[first + s]);
-        at += 8;
     }
+    at
 }
 
 // Puts a row of `n` bits, those of the hours of a set, into the bytes from `p` on.
@@ -54,9 +53,5 @@ pub(crate) fn put_bits(b: &mut [u8], p: usize, n: usize, set: Hours)
     ensures says { (s : ℕ) → s < n → bit (slice_index b.new (p + s / 8)) (s % 8) ≡ has set s }
     ensures kept { Kept p (p + width n) b.old b.new }
 {
-    let mut bits = set.bits();
-    for k in 0..row_bytes(n) {
-        b[p + k] = (bits & 255) as u8;
-        bits >>= 8;
-    }
+    put_bytes(b, p, &set.bits().to_le_bytes()[..row_bytes(n)]);
 }

@@ -3,6 +3,8 @@ ghost use Rattle.std.specs.Prelude.{◌≡◌};
 ghost use Rattle.sheet_writer.specs.Planned.{short_code};
 ghost use Rattle.sheet_writer.specs.Written.{why};
 
+use refusals::Numbered;
+
 // What a writer of a sheet refuses.
 #[derive(Clone, Copy, PartialEq, Eq, Debug)]
 pub enum Unwritten {
@@ -14,21 +16,17 @@ pub enum Unwritten {
     ShortSheet,
 }
 
-impl Unwritten {
-    // The number of the refusal.
-    pub fn number(self) -> usize
-        ensures { result ≡ (why self).0 }
-    {
+impl Numbered for Unwritten {
+    ghost code = { why };
+
+    fn number(self) -> usize {
         match self {
             Unwritten::TooLarge => 12,
             Unwritten::ShortPlan | Unwritten::ShortSheet => 5,
         }
     }
 
-    // The place of the refusal: which lent slice is too short.
-    pub fn place(self) -> usize
-        ensures { result ≡ (why self).1 }
-    {
+    fn place(self) -> usize {
         match self {
             Unwritten::TooLarge | Unwritten::ShortPlan => 0,
             Unwritten::ShortSheet => 2,
@@ -36,7 +34,7 @@ impl Unwritten {
     }
 }
 
-// A lent slice is too short.
+// A lent slice is too short: one slice more than a plan alone is lent, so no answer of the planner names a sheet.
 #[derive(Clone, Copy, PartialEq, Eq, Debug)]
 pub enum Short {
     Plan,
@@ -44,18 +42,14 @@ pub enum Short {
     Sheet,
 }
 
-impl Short {
-    // The number of the refusal.
-    pub fn number(self) -> usize
-        ensures { result ≡ (short_code self).0 }
-    {
+impl Numbered for Short {
+    ghost code = { short_code };
+
+    fn number(self) -> usize {
         5
     }
 
-    // The place of the refusal: which slice.
-    pub fn place(self) -> usize
-        ensures { result ≡ (short_code self).1 }
-    {
+    fn place(self) -> usize {
         match self {
             Short::Plan => 0,
             Short::Work => 1,

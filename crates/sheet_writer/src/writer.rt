@@ -32,185 +32,146 @@ fn put_load(b: &mut [u8], p: usize, load: Fraction)
     b[p + 8] = load.den() as u8;
 }
 
-// Puts the loads of the hours.
-fn put_loads(b: &mut [u8], hours: usize, loads: &[Fraction; 96])
-    requires short { hours ≤ 96 }
-    requires within { hours * 9 ≤ length b.old }
-    requires small { (s : ℕ) (d : Level) → s < hours → (slice_index_or loads.now s d).den < 256 }
-    ensures says { LoadsPut hours loads.now b.new }
-    ensures kept { Kept 0 (hours * 9) b.old b.new }
-{
-    for s in 0..hours {
-        put_load(b, s * 9, loads[s]);
-    }
-}
-
-// Puts the hours of the groups from `p` on.
-fn put_groups(b: &mut [u8], p: usize, hours: usize, groups: &[Hours; 96], found: usize)
-    requires short { hours ≤ 96 }
-    requires few { found ≤ 96 }
-    requires within { p + found * width hours ≤ length b.old }
-    ensures says { GroupsPut found hours p groups.now b.new }
-    ensures kept { Kept p (p + found * width hours) b.old b.new }
-{
-    let bytes = row_bytes(hours);
-    for g in 0..found {
-        put_bits(b, p + g * bytes, hours, groups[g]);
-    }
-}
-
-// Puts the group of a task, and the amounts for the hours of a set, those of `plan` from `first` on, into the bytes from `p` on.
-fn put_task(
-    b: &mut [u8],
-    p: usize,
-    hours: usize,
-    set: Hours,
-    group: usize,
-    plan: &[u64],
-    first: usize,
-)
-    requires within { p + 1 + size hours (has set) * 8 ≤ length b.old }
-    requires rows { first + hours ≤ length plan.now }
+// Puts the group of a task, and the amounts of its row for the hours of a set, into the bytes from `p` on. It says where they end.
+fn put_task(b: &mut [u8], p: usize, group: usize, set: Hours, row: &[u64]) -> usize
+    requires within { p + (1 + size (length row.now) (has set) * 8) ≤ length b.old }
     requires small { group < 256 }
+    ensures end { result ≡ p + (1 + size (length row.now) (has set) * 8) }
     ensures group { slice_index b.new p ≡ group }
-    ensures amounts { (s : ℕ) → s < hours → has set s ≡ true → listed b.new (p + 1) (has set) s ≡ slice_index plan.now (first + s) }
-    ensures kept { Kept p (p + 1 + size hours (has set) * 8) b.old b.new }
+    ensures amounts { (s : ℕ) → s < length row.now → has set s ≡ true → listed b.new (p + 1) (has set) s ≡ slice_index row.now s }
+    ensures kept { Kept p (p + (1 + size (length row.now) (has set) * 8)) b.old b.new }
 {
     b[p] = group as u8;
-    put_row(b, p + 1, hours, set, plan, first);
+    put_row(b, p + 1, set, row)
 }
 
-// Puts the groups and the amounts of the tasks from `p` on.
-fn put_tasks(b: &mut [u8], p: usize, hours: usize, tasks: &[Task], of: &[usize; 200], plan: &[u64])
-    requires sound { Sound hours tasks.now }
-    requires within { p + sum (length tasks.now) (row (day hours tasks.now)) ≤ length b.old }
-    requires rows { length tasks.now * 96 ≤ length plan.now }
-    requires small { (j : ℕ) → j < length tasks.now → slice_index of.now j < 256 }
-    ensures says { TasksPut (length tasks.now) hours p tasks.now of.now plan.now b.new }
-    ensures kept { Kept p (p + sum (length tasks.now) (row (day hours tasks.now))) b.old b.new }
+// Does each denominator take one byte?
+fn dens_fit(loads: &[Fraction]) -> bool
+    ensures { Decides result ((s : ℕ) (d : Level) → s < length loads.now → (slice_index_or loads.now s d).den < 256) }
 {
-    let mut at = p;
-    for j in 0..tasks.len() {
-        let set = tasks[j].hours;
-        put_task(b, at, hours, set, of[j], plan, j * 96);
-        at += 1 + set.count() * 8;
-    }
+    loads.iter().all(|load| load.den() <= 255)
 }
 
-// Puts a whole sheet.
-fn put_sheet(
-    sheet: &mut [u8],
-    hours: usize,
-    tasks: &[Task],
-    loads: &[Fraction; 96],
-    groups: &[Hours; 96],
-    found: usize,
-    of: &[usize; 200],
-    plan: &[u64],
-)
-    requires sound { Sound hours tasks.now }
-    requires fits { Fitting hours (length tasks.now) loads.now found of.now }
-    requires rows { length tasks.now * 96 ≤ length plan.now }
-    requires within { span (day hours tasks.now) found ≤ length sheet.old }
-    ensures says { Says hours tasks.now loads.now groups.now found of.now plan.now sheet.new }
-    ensures kept { Kept 0 (span (day hours tasks.now) found) sheet.old sheet.new }
+// Does each group take one byte?
+fn groups_fit(of: &[usize]) -> bool
+    ensures { Decides result ((j : ℕ) → j < length of.now → slice_index of.now j < 256) }
 {
-    put_loads(sheet, hours, loads);
-    sheet[hours * 9] = found as u8;
-    put_groups(sheet, hours * 9 + 1, hours, groups, found);
-    put_tasks(
-        sheet,
-        hours * 9 + 1 + found * row_bytes(hours),
-        hours,
-        tasks,
-        of,
-        plan,
-    );
-}
-
-// Does each denominator of the loads of the hours take one byte?
-fn dens_fit(hours: usize, loads: &[Fraction; 96]) -> bool
-    requires { hours ≤ 96 }
-    ensures { Decides result ((s : ℕ) (d : Level) → s < hours → (slice_index_or loads.now s d).den < 256) }
-{
-    for s in 0..hours {
-        if loads[s].den() > 255 {
-            return false;
-        }
-    }
-    true
-}
-
-// Does the group of each of the first `count` tasks take one byte?
-fn groups_fit(count: usize, of: &[usize; 200]) -> bool
-    requires { count ≤ 200 }
-    ensures { Decides result ((j : ℕ) → j < count → slice_index of.now j < 256) }
-{
-    for j in 0..count {
-        if of[j] > 255 {
-            return false;
-        }
-    }
-    true
+    of.iter().all(|group| *group <= 255)
 }
 
 // Has a sheet a place for these numbers?
-fn fits(hours: usize, count: usize, loads: &[Fraction; 96], found: usize, of: &[usize; 200]) -> bool
-    requires short { hours ≤ 96 }
-    requires few { count ≤ 200 }
-    ensures { Decides result (Fitting hours count loads.now found of.now) }
+fn fits(night: &Night, loads: &[Fraction; 96], found: usize, of: &[usize; 200]) -> bool
+    ensures { Decides result (Fitting (hours_of night.now) (length (tasks_of night.now)) loads.now found of.now) }
 {
-    found <= 96 && dens_fit(hours, loads) && groups_fit(count, of)
+    found <= 96 && dens_fit(&loads[..night.hours()]) && groups_fit(&of[..night.tasks().len()])
 }
 
-// How long a sheet is for these hours and tasks, with so many groups.
-fn span_of(hours: usize, tasks: &[Task], found: usize) -> usize
-    requires sound { Sound hours tasks.now }
-    requires few { found ≤ 255 }
-    ensures { result ≡ span (day hours tasks.now) found }
+// How long a sheet of the night is with so many groups.
+fn span_of(night: &Night, found: usize) -> usize
+    requires { found ≤ 255 }
+    ensures { result ≡ span (day_of night.now) found }
 {
+    let hours = night.hours();
+    let tasks = night.tasks();
     let starts = starts(hours, tasks, hours * 9 + 1 + found * row_bytes(hours));
     starts[tasks.len()]
 }
 
-// How long a sheet of the night is with so many groups.
+// The same, for callers that count groups in a byte.
 pub fn sheet_len(night: &Night, groups: u8) -> usize
     ensures { result ≡ span (day_of night.now) groups }
 {
-    span_of(night.hours(), night.tasks(), groups as usize)
+    span_of(night, groups as usize)
 }
 
-// Writes a sheet for the parts of a night, or says why not.
-fn write_tasks(
-    hours: usize,
-    tasks: &[Task],
-    loads: &[Fraction; 96],
-    groups: &[Hours; 96],
+// What a sheet of a night says of a plan: the loads by hours, the hours of so many groups, the group of each task, and the amounts, in which
+// a task's row takes 96 places. A sheet has a place for all of them.
+#[derive(Clone, Copy)]
+struct Drawn<'a> {
+    night: &'a Night,
+    loads: &'a [Fraction; 96],
+    groups: &'a [Hours; 96],
     found: usize,
-    of: &[usize; 200],
-    plan: &[u64],
-    sheet: &mut [u8],
-) -> Result<usize, Unwritten>
-    requires { Sound hours tasks.now }
-    ensures { MatchResult result (Wrote hours tasks.now loads.now groups.now found of.now plan.now sheet.old sheet.new) (λ e. (sheet.new ≡ sheet.old) × NotWritten hours tasks.now loads.now found of.now plan.now sheet.old (why e)) }
-{
-    if !fits(hours, tasks.len(), loads, found, of) {
-        return Err(Unwritten::TooLarge);
+    of: &'a [usize; 200],
+    plan: &'a [u64],
+    ghost few: { found ≤ 96 },
+    ghost dens: { (s : ℕ) (d : Level) → s < hours_of night.now → (slice_index_or loads.now s d).den < 256 },
+    ghost small: { (j : ℕ) → j < length (tasks_of night.now) → slice_index of.now j < 256 },
+    ghost rows: { length (tasks_of night.now) * 96 ≤ length plan.now },
+}
+
+impl Drawn<'_> {
+    // How long its sheet is.
+    fn len(&self) -> usize
+        ensures { result ≡ span (day_of self.now.night.now) self.now.found }
+    {
+        span_of(self.night, self.found)
     }
-    if plan.len() < tasks.len() * 96 {
-        return Err(Unwritten::ShortPlan);
+
+    // Puts the loads of the hours.
+    fn put_loads(&self, b: &mut [u8])
+        requires { hours_of self.now.night.now * 9 ≤ length b.old }
+        ensures says { LoadsPut (hours_of self.now.night.now) self.now.loads.now b.new }
+        ensures kept { Kept 0 (hours_of self.now.night.now * 9) b.old b.new }
+    {
+        for (s, load) in self.loads[..self.night.hours()].iter().enumerate() {
+            put_load(b, s * 9, *load);
+        }
     }
-    let len = span_of(hours, tasks, found);
-    if sheet.len() < len {
-        return Err(Unwritten::ShortSheet);
+
+    // Puts the hours of the groups from `p` on.
+    fn put_groups(&self, b: &mut [u8], p: usize)
+        requires { p + self.now.found * width (hours_of self.now.night.now) ≤ length b.old }
+        ensures says { GroupsPut self.now.found (hours_of self.now.night.now) p self.now.groups.now b.new }
+        ensures kept { Kept p (p + self.now.found * width (hours_of self.now.night.now)) b.old b.new }
+    {
+        let hours = self.night.hours();
+        let bytes = row_bytes(hours);
+        let groups = self.groups;
+        for (g, set) in groups[..self.found].iter().enumerate() {
+            put_bits(b, p + g * bytes, hours, *set);
+        }
     }
-    put_sheet(sheet, hours, tasks, loads, groups, found, of, plan);
-    Ok(len)
+
+    // The amounts of task j, by hours.
+    fn row(&self, j: usize) -> &[u64]
+        requires { j < length (tasks_of self.now.night.now) }
+        ensures long { length result.now ≡ hours_of self.now.night.now }
+        ensures each { (s : ℕ) → s < hours_of self.now.night.now → slice_index result.now s ≡ slice_index self.now.plan.now (j * 96 + s) }
+    {
+        let first = j * 96;
+        &self.plan[first..first + self.night.hours()]
+    }
+
+    // Puts the groups and the amounts of the tasks from `p` on.
+    fn put_tasks(&self, b: &mut [u8], p: usize)
+        requires { p + sum (length (tasks_of self.now.night.now)) (row (day_of self.now.night.now)) ≤ length b.old }
+        ensures says { TasksPut (length (tasks_of self.now.night.now)) (hours_of self.now.night.now) p (tasks_of self.now.night.now) self.now.of.now self.now.plan.now b.new }
+        ensures kept { Kept p (p + sum (length (tasks_of self.now.night.now)) (row (day_of self.now.night.now))) b.old b.new }
+    {
+        let mut at = p;
+        for (j, task) in self.night.tasks().iter().enumerate() {
+            at = put_task(b, at, self.of[j], task.hours, self.row(j));
+        }
+    }
+
+    // Puts the whole sheet.
+    fn put(&self, sheet: &mut [u8])
+        requires { span (day_of self.now.night.now) self.now.found ≤ length sheet.old }
+        ensures says { Says (hours_of self.now.night.now) (tasks_of self.now.night.now) self.now.loads.now self.now.groups.now self.now.found self.now.of.now self.now.plan.now sheet.new }
+        ensures kept { Kept 0 (span (day_of self.now.night.now) self.now.found) sheet.old sheet.new }
+    {
+        let hours = self.night.hours();
+        self.put_loads(sheet);
+        sheet[hours * 9] = self.found as u8;
+        self.put_groups(sheet, hours * 9 + 1);
+        self.put_tasks(sheet, hours * 9 + 1 + self.found * row_bytes(hours));
+    }
 }
 
 // Writes the sheet with these loads by hours, the hours of so many groups, the group of each task, and the amounts of a plan, in which a task's row
 // takes 96 places. It says how many bytes it wrote, and leaves those behind them. Where it writes nothing, it says why. What is written of a
-// plan made of groups is accepted.
+// plan made of groups is accepted. What it takes are parameters and no struct, since a caller lends each by itself.
 pub fn write(
     night: &Night,
     loads: &[Fraction; 96],
@@ -223,14 +184,24 @@ pub fn write(
     ensures outcome { MatchResult result (Wrote (hours_of night.now) (tasks_of night.now) loads.now groups.now found of.now plan.now sheet.old sheet.new) (λ e. (sheet.new ≡ sheet.old) × NotWritten (hours_of night.now) (tasks_of night.now) loads.now found of.now plan.now sheet.old (why e)) }
     ensures accepted { IfOk result (λ n. (num den at : ℕ → ℕ) → LevelPlan (hours_of night.now) (tasks_of night.now) loads.now groups.now found of.now plan.now num den at → Accepted (day_of night.now) (take n sheet.new)) }
 {
-    write_tasks(
-        night.hours(),
-        night.tasks(),
+    if !fits(night, loads, found, of) {
+        return Err(Unwritten::TooLarge);
+    }
+    if plan.len() < night.tasks().len() * 96 {
+        return Err(Unwritten::ShortPlan);
+    }
+    let drawn = Drawn {
+        night,
         loads,
         groups,
         found,
         of,
         plan,
-        sheet,
-    )
+    };
+    let len = drawn.len();
+    if sheet.len() < len {
+        return Err(Unwritten::ShortSheet);
+    }
+    drawn.put(sheet);
+    Ok(len)
 }

@@ -1,11 +1,15 @@
 -- A text with no mistake says a night.
-use Rattle.std.proofs.Common.{◌≡◌, ℕ, zero, suc, ◌+◌, ◌<◌, ◌≤◌, true, false, cond, eqb, ltb, List, [], ◌∷◌, ◌++◌, length, get_or, Some, None, Ok, Err, vec_items, Option, Result, String, sym, refl, ap, ◌∙◌, inl, inr, add-zero, arith}
-use Rattle.std.proofs.lemmas.Bool.{cases_Bool, cases_eq, eq-eqb, ne_eqb, or_cases, or_left}
+use Rattle.std.proofs.Common.{◌≡◌, ℕ, zero, suc, ◌+◌, ◌<◌, ◌≤◌, true, cond, eqb, ltb, List, [], ◌∷◌, ◌++◌, length, map, get_or, Some, None, Ok, Err, vec_items, Option, Result, String, sym, refl, ap, ◌∙◌, inl, inr, add-zero, arith}
+use Rattle.std.proofs.lemmas.Bool.{cases_Bool, cases_eq, eq-eqb, or_cases, or_left}
 use Rattle.std.proofs.lemmas.Bool.Decides.{nat_tests}
+use Rattle.std.proofs.lemmas.Option.{none-some}
+use Rattle.std.specs.Option.{IsSome, MatchOption}
 use Rattle.std.specs.declared.alloc.Global.{Global}
 use Rattle.fraction.proofs.Sums.{any_has}
 use Rattle.night.specs.declared.task.Task.{Task}
 use Rattle.sets.specs.Hours.{has}
+use Rattle.night.specs.declared.night.Night.{Night}
+use Rattle.night.specs.Night.{hours_of, tasks_of}
 use Rattle.night.specs.Task.{blank_task, Fits, Sound}
 use Rattle.night.proofs.Rows.{row_good}
 use Rattle.text.specs.declared.mistake.Fault.{Fault}
@@ -17,7 +21,9 @@ use Rattle.text.specs.Number.{numeral}
 use Rattle.text.specs.Piece.{pieces, words, holds}
 use Rattle.text.specs.Span.{from_to, between_dashes, spanned, names, covers, wrong_span, wrong_hours}
 use Rattle.text.specs.TaskLine.{last_of, colon, head_words, hour_words, units_said, wrong_units, wrong_task, Entered}
-use Rattle.text.specs.Told.{Told}
+use Rattle.text.specs.Reader.{Says}
+use Rattle.text.specs.Told.{Told, tell}
+use Rattle.text.specs.Unread.{Fit}
 use Rattle.text.proofs.Going.{said_range}
 
 -- a list of two parts that is empty
@@ -125,37 +131,41 @@ not_many i k ys e room =
       | inr z ↦ omega arith
     ]
 
+some_same : (m n : ℕ) → let some : Option ℕ = Some m in some ≡ Some n → m ≡ n
+some_same m n e = cc
+
 clean_lines :
-    (n : ℕ) → (n ≡ 0 → ⊥) → (ls : List (List ℕ)) (i k : ℕ) → k ≤ 200 → wrong_lines i n k ls ≡ [] →
-    Clean n k (entries n ls) × (last_hours n ls ≡ n)
-clean_lines n nz [] i k room e = (record { few = omega arith; each = λ j l. absurd (omega arith) }, refl)
-clean_lines n nz (l ∷ ls) i k room e =
-    let no : eqb n 0 ≡ false = ne_eqb n 0 nz in
+    (n : ℕ) (ls : List (List ℕ)) (i k : ℕ) → k ≤ 200 → wrong_lines i (Some n) k ls ≡ [] →
+    Clean n k (entries (Some n) ls) × (last_hours (Some n) ls ≡ Some n)
+clean_lines n [] i k room e = (record { few = omega arith; each = λ j l. absurd (omega arith) }, refl)
+clean_lines n (l ∷ ls) i k room e =
     elim (cases_Bool (silent l)) [
       | inl s ↦
-          let rest : wrong_lines (suc i) n (k + 0) ls ≡ [] = rw s at e in
-          rw s (clean_lines n nz ls (suc i) k room (rw add-zero at rest))
+          let rest : wrong_lines (suc i) (Some n) (k + 0) ls ≡ [] = rw s at e in
+          rw s (clean_lines n ls (suc i) k room (rw add-zero at rest))
       | inr s ↦
-          let both = rw (s, no) at e in
+          let both = rw s at e in
           let here = no_first _ _ both in
-          let r = clean_lines n nz ls (suc i) (k + 1) (not_many i k _ here room) (no_second _ _ both) in
-          rw (s, no) (clean_more n i k (content l) (entries n ls) here room r.0, r.1)
+          let r = clean_lines n ls (suc i) (k + 1) (not_many i k _ here room) (no_second _ _ both) in
+          rw s (clean_more n i k (content l) (entries (Some n) ls) here room r.0, r.1)
     ]
 
 -- the lines of a text, with no mistake and a header
 pub clean_text :
-    (ls : List (List ℕ)) (i : ℕ) → wrong_lines i 0 0 ls ≡ [] → (last_hours 0 ls ≡ 0 → ⊥) →
-    Clean (last_hours 0 ls) 0 (entries 0 ls) × (last_hours 0 ls ≤ 96)
-clean_text [] i e z = absurd (z refl)
-clean_text (l ∷ ls) i e z =
+    (n : ℕ) (ls : List (List ℕ)) (i : ℕ) → wrong_lines i None 0 ls ≡ [] → last_hours None ls ≡ Some n →
+    Clean n 0 (entries None ls) × (0 < n) × (n ≤ 96)
+clean_text n [] i e h = absurd (none-some n h)
+clean_text n (l ∷ ls) i e h =
     elim (cases_Bool (silent l)) [
-      | inl s ↦ rw s (clean_text ls (suc i) (rw s at e) (rw s at z))
+      | inl s ↦ rw s (clean_text n ls (suc i) (rw s at e) (rw s at h))
       | inr s ↦
           let range = said_range (words (content l)) in
-          let n = hours_said (header_says (words (content l))) in
-          let rest : wrong_lines (suc i) n 0 ls ≡ [] = no_second _ _ (rw s at e) in
-          let r = clean_lines n (λ y. omega (arith, range.0)) ls (suc i) 0 (omega arith) rest in
-          rw (s, r.1) (r.0, range.1)
+          let m = hours_said (header_says (words (content l))) in
+          let rest : wrong_lines (suc i) (Some m) 0 ls ≡ [] = no_second _ _ (rw s at e) in
+          let r = clean_lines m ls (suc i) 0 (omega arith) rest in
+          let last : last_hours (Some m) ls ≡ Some n = rw s at h in
+          let same : m ≡ n = some_same m n (sym r.1 ∙ last) in
+          rw (s, sym same) (r.0, range.0, range.1)
     ]
 
 some_name : (ss : List (String Global)) → 0 < length ss → String Global
@@ -164,26 +174,39 @@ some_name (s ∷ ss) l = s
 
 -- a text with no mistake says a night
 pub clean_night :
-    (ls : List (List ℕ)) (i n : ℕ) (ts : List Task) (ss : List (String Global)) → n ≡ last_hours 0 ls → wrong_lines i 0 0 ls ≡ [] →
-    (n ≡ 0 → ⊥) → Listed n (entries 0 ls) ts ss → Sound n ts
-clean_night ls i n ts ss here e nz h =
-    let r : Clean n 0 (entries 0 ls) × (n ≤ 96) = rw here (clean_text ls i e (rw here at nz)) in
+    (ls : List (List ℕ)) (i n : ℕ) (ts : List Task) (ss : List (String Global)) → last_hours None ls ≡ Some n →
+    wrong_lines i None 0 ls ≡ [] → Listed n (entries None ls) ts ss → Sound n ts
+clean_night ls i n ts ss here e h =
+    let r = clean_text n ls i e here in
     record {
-      some = omega arith;
-      short = r.1;
+      some = r.1;
+      short = r.2;
       few = omega (arith, h.tasks, r.0.few);
       each = λ j l.
           let task = r.0.each j (omega (arith, h.tasks)) in
-          clean_task n task.0 _ _ _ r.1 (h.each j blank_task (some_name ss (omega (arith, h.tasks, h.names))) (omega (arith, h.tasks))) task.1;
+          clean_task n task.0 _ _ _ r.2 (h.each j blank_task (some_name ss (omega (arith, h.tasks, h.names))) (omega (arith, h.tasks))) task.1;
     }
 
 -- a reader that found no mistake has a night
-pub read_night : (bs : List ℕ) (r : Reading) → Read bs r → vec_items r.mistakes ≡ [] → Sound r.hours (vec_items r.tasks)
-read_night bs r h none =
+pub read_night :
+    (bs : List ℕ) (r : Reading) (n : ℕ) → Read bs r → vec_items r.report.mistakes ≡ [] → r.hours ≡ Some n → Sound n (vec_items r.tasks)
+read_night bs r n h none is =
     let clean : wrong_text bs ≡ [] = sym h.wrong ∙ rw none in
-    let n = last_hours 0 (lines bs) in
-    let header = no_second (wrong_lines 1 0 0 (lines bs)) (no_header (length (lines bs)) n) clean in
-    let some : n ≡ 0 → ⊥ = λ z. let y : eqb n 0 ≡ true = eq-eqb n 0 z in no_cons _ _ _ (rw y at header) in
-    clean_night (lines bs) 1 r.hours _ _ h.hours
-    (no_first (wrong_lines 1 0 0 (lines bs)) (no_header (length (lines bs)) n) clean)
-    (λ z. some (sym h.hours ∙ z)) h.listed
+    clean_night (lines bs) 1 n _ _ (sym h.hours ∙ is)
+    (no_first (wrong_lines 1 None 0 (lines bs)) (no_header (length (lines bs)) (last_hours None (lines bs))) clean)
+    (h.listed n (rw is refl))
+
+-- what is refused only where P does not hold is made where P holds
+pub surely_made : {X P : Type 0} (Q : X → Type 0) (o : Option X) → MatchOption o (P → ⊥) Q → P → IsSome o
+surely_made Q None refused p = absurd (refused p)
+surely_made Q (Some x) made p = refl
+
+pub says_night :
+    (bs : List ℕ) (r : Reading) (n : ℕ) (night : Night) → Fit bs → Read bs r → vec_items r.report.mistakes ≡ [] → r.hours ≡ Some n →
+    hours_of night ≡ n → tasks_of night ≡ vec_items r.tasks → Says bs (record { night = night; names = r.names })
+says_night bs r n night fit h none is hours tasks = record {
+  fit = fit;
+  clean = sym h.wrong ∙ ap (map tell) none;
+  hours = sym h.hours ∙ is ∙ ap Some (sym hours);
+  listed = rw (hours, tasks) (h.listed n (rw is refl));
+}

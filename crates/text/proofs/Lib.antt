@@ -1,6 +1,4 @@
-pub mod Blaming
 pub mod Clean
-pub mod Entries
 pub mod Going
 pub mod Numbers
 pub mod Passing

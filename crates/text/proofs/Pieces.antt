@@ -1,8 +1,18 @@
 -- Laws of text in pieces.
-use Rattle.std.proofs.Common.{◌≡◌, ℕ, zero, suc, ◌+◌, ◌-◌, ◌<◌, ◌≤◌, Bool, true, false, List, [], ◌∷◌, length, get_or, take, drop, refl, ap, ◌∙◌, inl, inr, arith, length-drop}
-use Rattle.std.proofs.lemmas.List.{take_rest}
-use Rattle.std.proofs.lemmas.Bool.{cases_Bool, or_right}
-use Rattle.text.specs.Piece.{onto, pieces, filled, holds, after, Whole, Parted}
+use Rattle.std.proofs.Common.{◌≡◌, ℕ, Option, Bor, zero, suc, ◌<◌, ◌≤◌, Bool, true, false, List, [], ◌∷◌, length, get_or, take, drop, Some, None, not, position, sym, refl, ap, ◌∙◌, inl, inr, arith, length-drop, one-add}
+use Rattle.std.proofs.lemmas.List.Quantifiers.{position-Some}
+use Rattle.std.proofs.lemmas.List.Sums.{prefix_len_passes, prefix_len-le-length}
+use Rattle.std.proofs.lemmas.Str.Ascii.{trim_ascii_start_is}
+use Rattle.std.proofs.lemmas.Bool.{cases_Bool, or_right, not-true}
+use Rattle.std.proofs.lemmas.Bool.Decides.{nat_tests}
+use Rattle.std.specs.Char.{is_ascii_whitespace}
+use Rattle.std.specs.Iterator.{Drains, Yields, YieldsFirstRef}
+use Rattle.std.specs.List.{last_or, prefix_len, position_or_len}
+use Rattle.std.specs.Option.{unwrap_or}
+use Rattle.std.specs.Str.{IsTrimAsciiStart}
+use Rattle.text.specs.declared.piece.Words.{Words}
+use Rattle.text.specs.Piece.{onto, pieces, filled, words, holds, after, Whole, Parted}
+use Rattle.text.specs.TaskLine.{last_of}
 
 -- a text with no mark is one piece
 pub pieces_none : (p : ℕ → Bool) (bs : List ℕ) → ((k : ℕ) → k < length bs → p (get_or bs k 0) ≡ false) → pieces p bs ≡ bs ∷ []
@@ -39,44 +49,82 @@ after_at p (b ∷ bs) zero l h e = rw e
 after_at p (b ∷ bs) (suc n) l h e =
     rw (h 0 (omega arith)) (after_at p bs n (omega arith) (λ k m. h (suc k) (omega arith)) e)
 
--- the parts that the code cuts out
-pub parted :
-    (p : ℕ → Bool) (bs : List ℕ) (n : ℕ) → n < length bs → ((k : ℕ) → k < n → p (get_or bs k 0) ≡ false) →
-    p (get_or bs n 0) ≡ true → Parted p bs (take (n - 0) bs) (take (length bs - (n + 1)) (drop (n + 1) bs))
-parted p bs n l h e =
-    let zero_off : n - 0 ≡ n = omega arith in
-    let one_on : n + 1 ≡ suc n = omega arith in
-    rw (take_rest bs (n + 1), zero_off, one_on) (record {
-      more = pieces_at p bs n l h e;
-      some = holds_at p bs n l e;
-      past = after_at p bs n l h e;
-      shorter = omega (arith, length-drop (suc n) bs);
-    })
+-- a byte that stands nowhere, and one that stands first at n
+pub never : (p : ℕ → Bool) (bs : List ℕ) → position p bs ≡ None → Whole p bs
+never p bs e =
+    let all : length bs ≤ position_or_len p bs = grind (arith, nat_tests, e) in
+    whole p bs (λ k l. not-true _ (prefix_len_passes (λ x. not (p x)) bs k 0 (omega (arith, all, l))))
 
--- the words of a text whose first piece is empty, and of one whose first is not
-pub words_empty :
-    (p : ℕ → Bool) (bs w rest : List ℕ) → length w ≡ 0 → pieces p bs ≡ w ∷ pieces p rest →
-    filled (pieces p rest) ≡ filled (pieces p bs)
-words_empty p bs [] rest z e = rw e
-words_empty p bs (b ∷ w) rest z e = absurd (omega arith)
+pub parted : (p : ℕ → Bool) (bs : List ℕ) (n : ℕ) → position p bs ≡ Some n → Parted p bs (take n bs) (drop (suc n) bs)
+parted p bs n e =
+    let at = position-Some p bs n 0 e in
+    record {
+      more = pieces_at p bs n at.0 at.2 at.1;
+      some = holds_at p bs n at.0 at.1;
+      past = after_at p bs n at.0 at.2 at.1;
+      shorter = omega (arith, at.0, length-drop (suc n) bs);
+    }
 
-pub words_first :
-    (p : ℕ → Bool) (bs w rest : List ℕ) → (length w ≡ 0 → ⊥) → pieces p bs ≡ w ∷ pieces p rest →
-    filled (pieces p bs) ≡ w ∷ filled (pieces p rest)
-words_first p bs [] rest z e = absurd (z refl)
-words_first p bs (b ∷ w) rest z e = rw e
+-- blanks before the first word do not count
+filled_skip : (p : ℕ → Bool) (bs : List ℕ) → filled (pieces p (drop (prefix_len p bs) bs)) ≡ filled (pieces p bs)
+filled_skip p [] = refl
+filled_skip p (b ∷ bs) = elim (cases_Bool (p b)) [
+  | inl e ↦ rw (e, one-add) (filled_skip p bs)
+  | inr e ↦ rw e (rw e refl)
+]
 
--- the words of a text with no blank
-pub words_none : (p : ℕ → Bool) (bs : List ℕ) → length bs ≡ 0 → pieces p bs ≡ bs ∷ [] → filled (pieces p bs) ≡ []
-words_none p [] z e = refl
-words_none p (b ∷ bs) z e = absurd (omega arith)
+-- what stands after the blanks begins with none
+first_filled : (p : ℕ → Bool) (bs : List ℕ) (c : ℕ) (cs : List ℕ) → drop (prefix_len p bs) bs ≡ c ∷ cs → p c ≡ false
+first_filled p [] c cs h = let z : ◌≡◌ {A = ℕ} 0 1 = cc in absurd (omega arith)
+first_filled p (b ∷ bs) c cs h = elim (cases_Bool (p b)) [
+  | inl e ↦ first_filled p bs c cs (rw (e, one-add) at h)
+  | inr e ↦ let both : b ∷ bs ≡ c ∷ cs = rw e at h in let same : b ≡ c = cc in rw (sym same) e
+]
 
-pub words_last :
-    (p : ℕ → Bool) (bs rest : List ℕ) → (length bs ≡ 0 → ⊥) → length rest ≡ 0 → pieces p bs ≡ bs ∷ [] →
-    filled (pieces p bs) ≡ bs ∷ filled (pieces p rest)
-words_last p [] rest z y e = absurd (z refl)
-words_last p (b ∷ bs) [] z y e = rw e
-words_last p (b ∷ bs) (c ∷ rest) z y e = absurd (omega arith)
+-- the first piece, and the others
+first_piece :
+    (p : ℕ → Bool) (bs : List ℕ) →
+    (ls : List (List ℕ)) × (pieces p bs ≡ take (position_or_len p bs) bs ∷ ls)
+    × (filled (pieces p (drop (position_or_len p bs) bs)) ≡ filled ls)
+first_piece p [] = ([], refl, refl)
+first_piece p (b ∷ bs) =
+    let rest = first_piece p bs in
+    let at = rest.1 in
+    elim (cases_Bool (p b)) [
+      | inl e ↦ (pieces p bs, rw e refl, rw e (rw e refl))
+      | inr e ↦ (rest.0, rw (e, one-add, at) refl, rw (e, one-add) rest.2)
+    ]
+
+filled_cons : (y l : List ℕ) (x : ℕ) (ls : List (List ℕ)) → y ≡ x ∷ l → filled (y ∷ ls) ≡ y ∷ filled ls
+filled_cons y l x ls e = rw e refl
+
+-- the first place that passes, or the length
+first_place : (p : ℕ → Bool) (bs : List ℕ) (n : ℕ) → n ≡ unwrap_or (position p bs) (length bs) → n ≡ position_or_len p bs
+first_place p bs n e = let short = prefix_len-le-length (λ b. not (p b)) bs in grind (arith, nat_tests)
+
+pub place_within : (p : ℕ → Bool) (bs : List ℕ) (n : ℕ) → n ≡ unwrap_or (position p bs) (length bs) → n ≤ length bs
+place_within p bs n e = omega (arith, first_place p bs n e, prefix_len-le-length (λ b. not (p b)) bs)
+
+-- the words of a text of blanks, and of one with something else
+pub words_none : (bs t : List ℕ) → IsTrimAsciiStart bs t → length t ≡ 0 → words bs ≡ []
+words_none bs [] h z =
+    sym (rw (sym (trim_ascii_start_is bs [] h)) at (filled_skip is_ascii_whitespace bs))
+words_none bs (b ∷ t) h z = absurd (omega arith)
+
+pub words_some :
+    (bs t w r : List ℕ) (n : ℕ) → IsTrimAsciiStart bs t → (length t ≡ 0 → ⊥) →
+    n ≡ unwrap_or (position is_ascii_whitespace t) (length t) → w ≡ take n t → r ≡ drop n t → words bs ≡ w ∷ words r
+words_some bs [] w r n h z e front back = absurd (z refl)
+words_some bs (b ∷ t) w r n h z e front back =
+    let blank = is_ascii_whitespace in
+    let here = trim_ascii_start_is bs (b ∷ t) h in
+    let skip : filled (pieces blank (b ∷ t)) ≡ words bs = rw (sym here) at (filled_skip blank bs) in
+    let first = first_piece blank (b ∷ t) in
+    let no : blank b ≡ false = first_filled blank bs b t (sym here) in
+    let one : take (position_or_len blank (b ∷ t)) (b ∷ t) ≡ b ∷ take (position_or_len blank t) t = rw (no, one-add) refl in
+    rw (front, back, first_place blank (b ∷ t) n e)
+    (sym skip ∙ ap filled first.1 ∙ filled_cons _ _ b first.0 one
+    ∙ ap (λ v. take (position_or_len blank (b ∷ t)) (b ∷ t) ∷ v) (sym first.2))
 
 -- there is a first piece
 pub pieces_some : (p : ℕ → Bool) (bs : List ℕ) → (x : List ℕ) × (ls : List (List ℕ)) × (pieces p bs ≡ x ∷ ls)
@@ -111,3 +159,19 @@ pieces_few p (b ∷ bs) =
       | inl e ↦ rw (e, s.2) (omega arith)
       | inr e ↦ rw (e, s.2) (omega arith)
     ]
+
+-- the last item of a run over words
+last_after :
+    (b : Bor (List ℕ)) (o : Option (Bor (List ℕ))) (xs : List (Bor (List ℕ))) (s t u : Words) →
+    Yields (YieldsFirstRef (λ w. words w.0.now)) s xs t → YieldsFirstRef (λ w. words w.0.now) t None u →
+    (unwrap_or (last_or o xs) b).now ≡ last_of (unwrap_or o b).now (words s.0.now)
+last_after b o [] s t u all end = rw (all, end.0) refl
+last_after b o (x ∷ xs) s t u all end = rw all.1 (last_after b (Some x) xs all.0 t u all.2 end)
+
+pub last_read :
+    (s : Words) (o : Option (Bor (List ℕ))) (b r : Bor (List ℕ)) →
+    (xs : List (Bor (List ℕ))) × Drains (YieldsFirstRef (λ w. words w.0.now)) s xs × (o ≡ last_or None xs) →
+    r ≡ unwrap_or o b → b.now ≡ [] → r.now ≡ last_of [] (words s.0.now)
+last_read s o b r ran is none =
+    ap (λ x. x.now) (is ∙ ap (λ x. unwrap_or x b) ran.2) ∙ last_after b None ran.0 s ran.1.1.0 ran.1.0 ran.1.1.1 ran.1.1.2
+    ∙ ap (λ x. last_of x (words s.0.now)) none

@@ -1,11 +1,12 @@
 -- Laws of hours as people write them.
-use Rattle.std.proofs.Common.{◌≡◌, ℕ, ◌+◌, ◌-◌, ◌*◌, ◌<◌, ◌≤◌, min, Bool, true, false, cond, eqb, List, [], ◌∷◌, Some, None, Ok, Err, Option, sym, refl, ap, ◌∙◌, inl, inr, arith}
+use Rattle.std.proofs.Common.{◌≡◌, ℕ, ◌+◌, ◌-◌, ◌*◌, ◌<◌, ◌≤◌, min, Bool, true, false, cond, eqb, List, [], ◌∷◌, Some, None, Ok, Err, Option, MatchOption, Bor, sym, refl, ap, ◌∙◌, inl, inr, arith}
 use Rattle.std.proofs.lemmas.Bool.{cases_Bool}
 use Rattle.std.proofs.lemmas.Bool.Decides.{nat_tests}
 use Rattle.std.specs.Char.{is_ascii_digit}
-use Rattle.text.specs.declared.mistake.Fault.TheVariants.{NotHour, Backward, Late}
+use Rattle.std.specs.Option.{unwrap_or}
+use Rattle.text.specs.declared.mistake.Fault.TheVariants.{NotHour}
 use Rattle.text.specs.Number.{digits_on, numeral}
-use Rattle.text.specs.Piece.{onto, pieces}
+use Rattle.text.specs.Piece.{onto, pieces, Whole, Parted}
 use Rattle.text.specs.Span.{from_to, between_dashes, spanned}
 use Rattle.text.proofs.Pieces.{pieces_some, pieces_one}
 
@@ -48,17 +49,18 @@ behind n a b (t ∷ []) e = rw (pieces_one dash b t e)
 behind n a b (t ∷ (u ∷ ls)) e = rw (numeral_dashed b t u ls e) (sym (from_to_none n (numeral a)))
 
 -- the ends of a range are the numbers before and after its dash; an hour is both ends of its span
-pub two_ends : (n : ℕ) (w a b : List ℕ) → pieces dash w ≡ a ∷ pieces dash b → spanned n w ≡ from_to n (numeral a) (numeral b)
+two_ends : (n : ℕ) (w a b : List ℕ) → pieces dash w ≡ a ∷ pieces dash b → spanned n w ≡ from_to n (numeral a) (numeral b)
 two_ends n w a b e = rw e (behind n a b (pieces dash b) refl)
 
-pub one_end : (n : ℕ) (w : List ℕ) → pieces dash w ≡ w ∷ [] → spanned n w ≡ from_to n (numeral w) (numeral w)
+one_end : (n : ℕ) (w : List ℕ) → pieces dash w ≡ w ∷ [] → spanned n w ≡ from_to n (numeral w) (numeral w)
 one_end n w e = rw e
 
-pub late : (n a b : ℕ) → a ≤ b → n ≤ b → from_to n (Some a) (Some b) ≡ Err (Late n)
-late n a b l m = grind (arith, nat_tests)
+pub halves :
+    (n : ℕ) (w : Bor (List ℕ)) (o : Option (Bor (List ℕ) × Bor (List ℕ))) (p : Bor (List ℕ) × Bor (List ℕ)) →
+    MatchOption o (Whole dash w.now) (λ x. Parted dash w.now x.0.now x.1.now) → p ≡ unwrap_or o (w, w) →
+    spanned n w.now ≡ from_to n (numeral p.0.now) (numeral p.1.now)
+halves n w None p h e = rw e (one_end n w.now h.one)
+halves n w (Some x) p h e = rw e (two_ends n w.now x.0.now x.1.now h.more)
 
 pub within : (n a b : ℕ) → a ≤ b → b < n → from_to n (Some a) (Some b) ≡ Ok (record { from = a; to = b })
 within n a b l m = grind (arith, nat_tests)
-
-pub backward : (n a b : ℕ) → b < a → from_to n (Some a) (Some b) ≡ Err Backward
-backward n a b l = grind (arith, nat_tests)

@@ -1,11 +1,12 @@
 -- Laws of a night as people write it.
-use Rattle.std.proofs.Common.{◌≡◌, ℕ, zero, suc, ◌+◌, ◌<◌, ◌≤◌, Bool, true, false, List, [], ◌∷◌, ◌++◌, length, get_or, drop, string_bytes, codes, decimal, String, sym, refl, ap, ◌∙◌, add-one, arith}
-use Rattle.std.proofs.lemmas.List.{append_assoc, append-nil, at_drop_more, at_drop_all}
+use Rattle.std.proofs.Common.{◌≡◌, ℕ, zero, suc, ◌+◌, ◌<◌, ◌≤◌, Bool, List, [], ◌∷◌, ◌++◌, length, get_or, string_bytes, codes, decimal, String, sym, refl, ap, add-one, arith, Option, Bor, MatchOption, Some, None, ◌∙◌}
+use Rattle.std.proofs.lemmas.List.{append_assoc, append-nil}
+use Rattle.std.specs.List.{HoldsAt}
 use Rattle.std.specs.declared.alloc.Global.{Global}
 use Rattle.night.specs.declared.task.Task.{Task}
 use Rattle.sets.specs.Hours.{has}
 use Rattle.night.specs.Task.{blank_task}
-use Rattle.text.specs.Written.{hour_text, hours_text, label, task_text, name_at, lines_text, odd, plain}
+use Rattle.text.specs.Written.{hour_text, hours_text, label, task_text, name_at, lines_text}
 
 -- text after text
 onto : (start before now x y : List ℕ) → before ≡ start ++ x → now ≡ before ++ y → now ≡ start ++ (x ++ y)
@@ -22,13 +23,6 @@ pub hours_none : (p : ℕ → Bool) (start : List ℕ) → start ≡ start ++ ho
 unfolding hours_text
 hours_none p start = sym (append-nil start)
 
--- a name and a space
-pub label_some :
-    (start before now name : List ℕ) → (length name ≡ 0 → ⊥) → before ≡ start ++ name → now ≡ before ++ codes " " →
-    now ≡ start ++ label name
-label_some start before now [] z e f = absurd (z refl)
-label_some start before now (b ∷ bs) z e f = onto start before now (b ∷ bs) (codes " ") e f
-
 -- the line of a task
 pub task_whole :
     (n : ℕ) (name : List ℕ) (t : Task) (start a b c d : List ℕ) → a ≡ start ++ label name →
@@ -38,25 +32,23 @@ unfolding task_text
 task_whole n name t start a b c d e f g h = rw (h, g, f, e) (simp append_assoc)
 
 -- the name of a task
-pub name_some : (ss : List (String Global)) (j : ℕ) (s : String Global) → j < length ss → s ≡ get_or ss j s → string_bytes s ≡ name_at ss j
+name_some : (ss : List (String Global)) (j : ℕ) (s : String Global) → j < length ss → s ≡ get_or ss j s → string_bytes s ≡ name_at ss j
 name_some [] j s l e = absurd (omega arith)
 name_some (x ∷ ss) zero s l e = ap string_bytes e
 name_some (x ∷ ss) (suc j) s l e = name_some ss j s (omega arith) e
 
-pub name_none : (ss : List (String Global)) (j : ℕ) → length ss ≤ j → [] ≡ name_at ss j
+name_none : (ss : List (String Global)) (j : ℕ) → length ss ≤ j → [] ≡ name_at ss j
 name_none [] j l = refl
 name_none (x ∷ ss) zero l = absurd (omega arith)
 name_none (x ∷ ss) (suc j) l = name_none ss j (omega arith)
 
--- a byte more of a name
-pub plain_odd : (bs : List ℕ) (i : ℕ) → i < length bs → plain (drop i bs) ≡ plain bs → odd (get_or bs i 0) ≡ true → false ≡ plain bs
-plain_odd bs i l h e = sym (at_drop_more plain bs i 0 l ∙ rw e) ∙ h
-
-pub plain_more : (bs : List ℕ) (i : ℕ) → i < length bs → plain (drop i bs) ≡ plain bs → odd (get_or bs i 0) ≡ false → plain (drop (i + 1) bs) ≡ plain bs
-plain_more bs i l h e = sym (at_drop_more plain bs i 0 l ∙ rw e) ∙ h
-
-pub plain_all : (bs : List ℕ) (i : ℕ) → length bs ≤ i → plain (drop i bs) ≡ plain bs → true ≡ plain bs
-plain_all bs i l h = sym (at_drop_all plain bs i l) ∙ h
+-- the name that a look-up gives, empty where it gives none
+pub name_read :
+    (ss : List (String Global)) (j : ℕ) (o : Option (Bor (String Global))) (r : List ℕ) →
+    MatchOption o (length ss ≤ j) (λ x. (j < length ss) × HoldsAt (λ y. x.now ≡ y) ss j) →
+    MatchOption o (r ≡ []) (λ x. r ≡ string_bytes x.now) → r ≡ name_at ss j
+name_read ss j None r at is = is ∙ name_none ss j at
+name_read ss j (Some x) r at is = is ∙ name_some ss j x.now at.0 (at.1 x.now)
 
 -- a line more
 pub lines_more :

@@ -1,20 +1,21 @@
 -- Changes that people wrote, one in a line. Assumes nothing: these are definitions.
-use Rattle.std.specs.Prelude.{◌≡◌, ℕ, suc, ◌<◌, cond, List, [], ◌∷◌, ◌++◌, length, slice_index_or}
+use Rattle.std.specs.Prelude.{◌≡◌, ℕ, suc, ◌<◌, cond, List, [], ◌∷◌, ◌++◌, length, slice_index_or, Some, None, Option}
 use Rattle.change.specs.declared.kinds.Change.{Change}
 use Rattle.text.specs.declared.change_line.Said.{Said}
-use Rattle.text.specs.declared.change_line.Said.TheVariants.{Comes, Goes, More, Unclear}
+use Rattle.text.specs.declared.change_line.Said.TheVariants.{Comes, Goes, More}
+use Rattle.text.specs.declared.report.Report.{Report}
 use Rattle.text.specs.ChangeLine.{change_said, wrong_change, Means}
 use Rattle.text.specs.Lines.{lines, content, silent}
 use Rattle.text.specs.Piece.{words}
-use Rattle.text.specs.Told.{Told}
+use Rattle.text.specs.Told.{Told, Blamed}
 use Rattle.text.specs.Unread.{Fit}
 
 -- the line c, if it says a change
-abbrev pub if_clear : List ℕ → Said → List (List ℕ)
-if_clear c Comes = c ∷ []
-if_clear c (Goes j) = c ∷ []
-if_clear c (More j u) = c ∷ []
-if_clear c Unclear = []
+abbrev pub if_clear : List ℕ → Option Said → List (List ℕ)
+if_clear c (Some Comes) = c ∷ []
+if_clear c (Some (Goes j)) = c ∷ []
+if_clear c (Some (More j u)) = c ∷ []
+if_clear c None = []
 
 -- the change that a line says, if any, as the line without its comment
 abbrev pub change_in : List ℕ → List (List ℕ)
@@ -39,9 +40,9 @@ pub record Meant (cs : List (List ℕ)) (ds : List Change) : Type 0 where
   pub count : length ds ≡ length cs
   pub each : (j : ℕ) (d : Change) → j < length cs → Means (slice_index_or cs j []) (change_said (words (slice_index_or cs j []))) (slice_index_or ds j d)
 
--- a reader went over line i
-pub record Passed (i : ℕ) (l : List ℕ) (a b : List Change) (s t : List Told) : Type 0 where
-  pub wrong : t ≡ s ++ wrong_change_line i l
+-- a reader went over the line l
+pub record Passed (l : List ℕ) (a b : List Change) (s t : Report) : Type 0 where
+  pub wrong : Blamed s t (wrong_change_line s.line l)
   pub meant : (cs : List (List ℕ)) → Meant cs a → Meant (cs ++ change_in l) b
 
 -- the text is one of changes, and these are the changes

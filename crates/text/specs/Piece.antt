@@ -1,13 +1,6 @@
 -- Text in pieces. Assumes nothing: these are definitions.
-use Rattle.std.specs.Prelude.{◌≡◌, ℕ, ◌<◌, Bool, true, false, cond, ◌||◌, List, [], ◌∷◌, length, ◌==◌}
+use Rattle.std.specs.Prelude.{◌≡◌, ℕ, ◌<◌, Bool, true, false, cond, ◌||◌, List, [], ◌∷◌, length}
 use Rattle.std.specs.Char.{is_ascii_whitespace}
-use Rattle.text.specs.declared.piece.Mark.{Mark}
-use Rattle.text.specs.declared.piece.Mark.TheVariants.{Byte, Blank}
-
--- the byte b is the mark
-abbrev pub marks : Mark → ℕ → Bool
-marks (Byte m) b = b == m
-marks Blank b = is_ascii_whitespace b
 
 -- the byte b before the first of the pieces
 abbrev pub onto : ℕ → List (List ℕ) → List (List ℕ)

@@ -1,5 +1,5 @@
 -- Reading a night that people wrote. Assumes nothing: these are definitions.
-use Rattle.std.specs.Prelude.{◌≡◌, ℕ, List, [], vec_items}
+use Rattle.std.specs.Prelude.{◌≡◌, ℕ, List, [], Some, None, vec_items}
 use Rattle.night.specs.Night.{hours_of, tasks_of}
 use Rattle.text.specs.declared.reader.TextNight.{TextNight}
 use Rattle.text.specs.Lines.{lines, last_hours, entries, wrong_text, Listed}
@@ -9,5 +9,5 @@ use Rattle.text.specs.Unread.{Fit}
 pub record Says (bs : List ℕ) (t : TextNight) : Type 0 where
   pub fit : Fit bs
   pub clean : wrong_text bs ≡ []
-  pub hours : hours_of t.night ≡ last_hours 0 (lines bs)
-  pub listed : Listed (hours_of t.night) (entries 0 (lines bs)) (tasks_of t.night) (vec_items t.names)
+  pub hours : last_hours None (lines bs) ≡ Some (hours_of t.night)
+  pub listed : Listed (hours_of t.night) (entries None (lines bs)) (tasks_of t.night) (vec_items t.names)

@@ -1,8 +1,9 @@
 -- Mistakes as values. Assumes nothing: these are definitions.
-use Rattle.std.specs.Prelude.{ℕ, List, map, vec_items, Vec}
+use Rattle.std.specs.Prelude.{◌≡◌, ℕ, List, ◌++◌, map, vec_items, Vec}
 use Rattle.std.specs.declared.alloc.Global.{Global}
 use Rattle.text.specs.declared.mistake.Fault.{Fault}
 use Rattle.text.specs.declared.mistake.Mistake.{Mistake}
+use Rattle.text.specs.declared.report.Report.{Report}
 
 -- the line, what is wrong there, and the word that it is about
 abbrev pub Told : Type 0
@@ -13,3 +14,8 @@ tell m = (m.line, m.fault, vec_items m.found)
 
 abbrev pub told : Vec Mistake Global → List Told
 told v = map tell (vec_items v)
+
+-- the mistakes ts more, in the same line
+pub record Blamed (a b : Report) (ts : List Told) : Type 0 where
+  pub line : b.line ≡ a.line
+  pub told : told b.mistakes ≡ told a.mistakes ++ ts

@@ -1,5 +1,6 @@
 -- A night as people write it. Assumes nothing: these are definitions.
-use Rattle.std.specs.Prelude.{◌≡◌, ℕ, zero, suc, ◌<◌, Bool, true, false, cond, not, ◌&&◌, ◌||◌, List, [], ◌∷◌, ◌++◌, length, string_bytes, codes, decimal, String, ◌==◌, slice_index_or}
+use Rattle.std.specs.Prelude.{◌≡◌, ℕ, zero, suc, ◌<◌, Bool, true, false, cond, not, ◌||◌, List, [], ◌∷◌, ◌++◌, length, string_bytes, codes, decimal, String, ◌==◌, slice_index_or}
+use Rattle.std.specs.List.{list_all}
 use Rattle.std.specs.declared.alloc.Global.{Global}
 use Rattle.night.specs.declared.task.Task.{Task}
 use Rattle.sets.specs.Hours.{has}
@@ -54,8 +55,7 @@ odd b = (b == 10 || b == 35) || b == 58
 
 -- a name with no such byte
 abbrev pub plain : List ℕ → Bool
-plain [] = true
-plain (b ∷ bs) = not (odd b) && plain bs
+plain bs = list_all (λ b. not (odd b)) bs
 
 -- all names are plain, and what was written is the text
 pub record Wrote (ts : List Task) (ss : List (String Global)) (written text : List ℕ) : Type 0 where

@@ -1,18 +1,18 @@
 // A line that says a change: `comes UNITS : HOURS`, `goes TASK` or `more TASK UNITS`.
-ghost use Rattle.std.specs.Prelude.{◌≡◌, ◌++◌, IfOk, OnOk};
+ghost use Rattle.std.specs.Prelude.{◌≡◌, IfOk, OnOk};
 ghost use Rattle.text.specs.ChangeLine.{goes_said, more_said, change_said, wrong_change, SaysIt};
 ghost use Rattle.text.specs.Piece.{words};
-ghost use Rattle.text.specs.Told.{told};
+ghost use Rattle.text.specs.Told.{Blamed};
 
-use crate::lines::is_silent;
-use crate::mistake::{Fault, Mistake, blame};
+use crate::mistake::Fault;
 use crate::number::number;
-use crate::piece::{next_word, same};
+use crate::piece::Words;
+use crate::report::Report;
 use crate::task_line::{Entry, read_task};
 use change::kinds::Change;
 use night::limits::MAX_HOURS;
 use night::task::Task;
-use std::alloc::{AllocError, Global};
+use std::alloc::AllocError;
 
 // What a line says, but for the task that comes.
 #[derive(Clone, Copy)]
@@ -20,86 +20,60 @@ pub enum Said {
     Comes,
     Goes(usize),
     More(usize, u32),
-    Unclear,
 }
 
 // What follows `goes`.
-fn read_goes(text: &[u8]) -> Said
-    ensures { result ≡ goes_said (words text.now) }
+fn read_goes(mut rest: Words<'_>) -> Option<Said>
+    ensures { result ≡ goes_said (words rest.entry.0.now) }
 {
-    let Some((task, after)) = next_word(text) else {
-        return Said::Unclear;
-    };
-    if !is_silent(after) {
-        return Said::Unclear;
+    let task = rest.next()?;
+    if rest.next().is_some() {
+        return None;
     }
-    match number(task) {
-        Some(task) => Said::Goes(task as usize),
-        None => Said::Unclear,
-    }
+    Some(Said::Goes(number(task)? as usize))
 }
 
 // What follows `more`.
-fn read_more(text: &[u8]) -> Said
-    ensures { result ≡ more_said (words text.now) }
+fn read_more(mut rest: Words<'_>) -> Option<Said>
+    ensures { result ≡ more_said (words rest.entry.0.now) }
 {
-    let Some((task, after)) = next_word(text) else {
-        return Said::Unclear;
-    };
-    let Some((units, rest)) = next_word(after) else {
-        return Said::Unclear;
-    };
-    if !is_silent(rest) {
-        return Said::Unclear;
+    let task = rest.next()?;
+    let units = rest.next()?;
+    if rest.next().is_some() {
+        return None;
     }
-    let Some(task) = number(task) else {
-        return Said::Unclear;
-    };
-    match number(units) {
-        Some(units) => Said::More(task as usize, units),
-        None => Said::Unclear,
-    }
+    Some(Said::More(number(task)? as usize, number(units)?))
 }
 
 // What a line says.
-fn read_said(content: &[u8]) -> Said
+fn read_said(content: &[u8]) -> Option<Said>
     ensures { result ≡ change_said (words content.now) }
 {
-    let Some((key, after)) = next_word(content) else {
-        return Said::Unclear;
-    };
-    if same(key, b"comes") {
-        return Said::Comes;
+    let mut words = Words(content);
+    match words.next()? {
+        b"comes" => Some(Said::Comes),
+        b"goes" => read_goes(words),
+        b"more" => read_more(words),
+        _ => None,
     }
-    if same(key, b"goes") {
-        return read_goes(after);
-    }
-    if same(key, b"more") {
-        return read_more(after);
-    }
-    Said::Unclear
 }
 
 // The change that a line says; it is a mistake if there is none.
-pub(crate) fn read_change(
-    heap: Global,
-    content: &[u8],
-    line: usize,
-    mistakes: &mut Vec<Mistake>,
-) -> Result<Option<Change>, AllocError>
+pub(crate) fn read_change(content: &[u8], report: &mut Report) -> Result<Option<Change>, AllocError>
     ensures read { IfOk result (λ o. SaysIt content.now (change_said (words content.now)) o) }
-    ensures told { OnOk result (told mistakes.new ≡ told mistakes.old ++ wrong_change line content.now (change_said (words content.now))) }
+    ensures told { OnOk result (Blamed report.old report.new (wrong_change report.old.line content.now (change_said (words content.now)))) }
 {
-    match read_said(content) {
-        Said::Comes => {
-            let Entry { task, name: _ } = read_task(heap, content, MAX_HOURS, line, mistakes)?;
-            Ok(Some(Change::Comes(task)))
+    let change = match read_said(content) {
+        Some(Said::Comes) => {
+            let Entry { task, name: _ } = read_task(content, MAX_HOURS, report)?;
+            Some(Change::Comes(task))
         }
-        Said::Goes(task) => Ok(Some(Change::Goes(task))),
-        Said::More(task, units) => Ok(Some(Change::More(task, units))),
-        Said::Unclear => {
-            blame(heap, mistakes, line, Fault::NotChange, &[])?;
-            Ok(None)
+        Some(Said::Goes(task)) => Some(Change::Goes(task)),
+        Some(Said::More(task, units)) => Some(Change::More(task, units)),
+        None => {
+            report.blame(Fault::NotChange, &[])?;
+            None
         }
-    }
+    };
+    Ok(change)
 }

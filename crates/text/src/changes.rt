@@ -6,55 +6,40 @@ ghost use Rattle.text.specs.Told.{told};
 ghost use Rattle.text.specs.Unread.{Blames};
 
 use crate::change_line::read_change;
-use crate::lines::{content_of, is_silent};
-use crate::mistake::Mistake;
-use crate::piece::{Mark, split_once};
-use crate::unread::{ReadError, reject};
+use crate::lines::content_of;
+use crate::piece::{Lines, is_blank};
+use crate::report::Report;
+use crate::unread::{ReadError, accept, reject};
 use change::kinds::Change;
 use std::alloc::{AllocError, Global};
 
 // A line more.
-fn add_change(
-    heap: Global,
-    changes: &mut Vec<Change>,
-    mistakes: &mut Vec<Mistake>,
-    line: &[u8],
-    number: usize,
-) -> Result<(), AllocError>
-    ensures { OnOk result (Passed number line.now changes.old.items changes.new.items (told mistakes.old) (told mistakes.new)) }
+fn add_change(changes: &mut Vec<Change>, report: &mut Report, line: &[u8]) -> Result<(), AllocError>
+    ensures { OnOk result (Passed line.now changes.old.items changes.new.items report.old report.new) }
 {
     let text = content_of(line);
-    if is_silent(text) {
+    if is_blank(text) {
         return Ok(());
     }
-    match read_change(heap, text, number, mistakes)? {
-        Some(change) => {
-            changes.push(change)?;
-            Ok(())
-        }
-        None => Ok(()),
+    if let Some(change) = read_change(text, report)? {
+        changes.push(change)?;
     }
+    Ok(())
 }
 
 // All lines of a text.
-fn read_all(
-    heap: Global,
-    text: &[u8],
-    mistakes: &mut Vec<Mistake>,
-) -> Result<Vec<Change>, AllocError>
-    requires { length text.now ≤ 2 ^ 20 }
+fn read_all(text: &[u8], report: &mut Report) -> Result<Vec<Change>, AllocError>
+    requires short { length text.now ≤ 2 ^ 20 }
+    requires start { report.old.line ≡ 0 }
     ensures read { IfOk result (λ v. Meant (change_lines (lines text.now)) v.items) }
-    ensures told { OnOk result (told mistakes.new ≡ told mistakes.old ++ wrong_changes 1 (lines text.now)) }
+    ensures told { OnOk result (told report.new.mistakes ≡ told report.old.mistakes ++ wrong_changes 1 (lines text.now)) }
 {
-    let mut changes = Vec::new(heap);
-    let mut number = 1;
-    let mut rest = text;
-    while let Some((line, after)) = split_once(rest, Mark::Byte(b'\n')) {
-        add_change(heap, &mut changes, mistakes, line, number)?;
-        rest = after;
-        number += 1;
+    let mut changes = Vec::new(report.heap);
+    for line in Lines::of(text) {
+        // counted in the report, where every mistake takes its line from
+        report.line += 1;
+        add_change(&mut changes, report, line)?;
     }
-    add_change(heap, &mut changes, mistakes, rest, number)?;
     Ok(changes)
 }
 
@@ -62,16 +47,9 @@ fn read_all(
 pub fn read_changes(heap: Global, text: &[u8]) -> Result<Vec<Change>, ReadError>
     ensures { MatchResult result (λ v. Changed text.now v.items) (λ e. Blames text.now (wrong_changes 1 (lines text.now)) e) }
 {
-    if let Some(error) = reject(heap, text) {
-        return Err(error);
-    }
-    let mut mistakes = Vec::new(heap);
-    let Ok(changes) = read_all(heap, text, &mut mistakes) else {
-        return Err(ReadError::Memory);
-    };
-    if mistakes.is_empty() {
-        Ok(changes)
-    } else {
-        Err(ReadError::Mistakes(mistakes))
-    }
+    reject(heap, text)?;
+    let mut report = Report::new(heap);
+    let changes = read_all(text, &mut report)?;
+    accept(report.mistakes)?;
+    Ok(changes)
 }

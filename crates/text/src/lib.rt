@@ -11,6 +11,7 @@ mod number;
 mod piece;
 pub mod reader;
 mod reading;
+mod report;
 mod span;
 mod task_line;
 pub mod unread;

@@ -1,13 +1,13 @@
 // A night, line by line.
-ghost use Rattle.std.specs.Prelude.{◌≡◌, ◌^◌, ◌≤◌, ◌++◌, length, IfOk, OnOk};
-ghost use Rattle.text.specs.Lines.{content, none, many, no_header, Added, Went, Read};
-ghost use Rattle.text.specs.Piece.{words};
-ghost use Rattle.text.specs.Told.{told};
+ghost use Rattle.std.specs.Prelude.{◌≡◌, ◌^◌, ◌≤◌, length, IfSome, IfOk, OnOk};
+ghost use Rattle.text.specs.Lines.{content, many, no_header, Added, Went, Read};
+ghost use Rattle.text.specs.Told.{Blamed};
 
 use crate::header::read_header;
-use crate::mistake::{Fault, Mistake, blame};
-use crate::piece::{Mark, next_word, split_once};
+use crate::mistake::Fault;
+use crate::piece::{Lines, is_blank, split_once};
 use crate::reading::Reading;
+use crate::report::Report;
 use crate::task_line::{Entry, read_task};
 use night::limits::MAX_TASKS;
 use std::alloc::{AllocError, Global};
@@ -16,85 +16,53 @@ use std::alloc::{AllocError, Global};
 pub fn content_of(line: &[u8]) -> &[u8]
     ensures { result.now ≡ content line.now }
 {
-    match split_once(line, Mark::Byte(b'#')) {
-        Some((front, _)) => front,
-        None => line,
-    }
-}
-
-// Whether there is no word.
-pub fn is_silent(text: &[u8]) -> bool
-    ensures { result ≡ none (words text.now) }
-{
-    next_word(text).is_none()
+    split_once(line, b'#').map_or(line, |(front, _)| front)
 }
 
 // A task after so many is a mistake, if they are as many as a night can have.
-fn check_count(
-    heap: Global,
-    tasks: usize,
-    number: usize,
-    mistakes: &mut Vec<Mistake>,
-) -> Result<(), AllocError>
-    ensures { OnOk result (told mistakes.new ≡ told mistakes.old ++ many number tasks) }
+fn check_count(tasks: usize, report: &mut Report) -> Result<(), AllocError>
+    ensures { OnOk result (Blamed report.old report.new (many report.old.line tasks)) }
 {
     if tasks == MAX_TASKS {
-        blame(heap, mistakes, number, Fault::ManyTasks, &[])?;
+        report.blame(Fault::ManyTasks, &[])?;
     }
     Ok(())
 }
 
-// A task more.
-fn add_task(
-    heap: Global,
-    reading: &mut Reading,
-    text: &[u8],
-    number: usize,
-) -> Result<(), AllocError>
-    requires { reading.old.hours ≤ 96 }
-    ensures { OnOk result (Added number text.now reading.old reading.new) }
+// A task more, of a night with so many hours.
+fn add_task(reading: &mut Reading, text: &[u8], hours: usize) -> Result<(), AllocError>
+    requires { hours ≤ 96 }
+    ensures { OnOk result (Added hours text.now reading.old reading.new) }
 {
-    let hours = reading.hours;
-    check_count(heap, reading.tasks.len(), number, &mut reading.mistakes)?;
-    let Entry { task, name } = read_task(heap, text, hours, number, &mut reading.mistakes)?;
+    check_count(reading.tasks.len(), &mut reading.report)?;
+    let Entry { task, name } = read_task(text, hours, &mut reading.report)?;
     reading.tasks.push(task)?;
     reading.names.push(name)?;
     Ok(())
 }
 
 // A line more: nothing, the header, or a task.
-fn read_line(
-    heap: Global,
-    reading: &mut Reading,
-    line: &[u8],
-    number: usize,
-) -> Result<(), AllocError>
-    requires { reading.old.hours ≤ 96 }
-    ensures { OnOk result (Went number line.now reading.old reading.new) }
+fn read_line(reading: &mut Reading, line: &[u8]) -> Result<(), AllocError>
+    requires { IfSome reading.old.hours (λ n. n ≤ 96) }
+    ensures { OnOk result (Went line.now reading.old reading.new) }
 {
     let text = content_of(line);
-    if is_silent(text) {
+    if is_blank(text) {
         return Ok(());
     }
-    if reading.hours == 0 {
-        reading.hours = read_header(heap, text, number, &mut reading.mistakes)?;
-        return Ok(());
+    if let Some(hours) = reading.hours {
+        return add_task(reading, text, hours);
     }
-    add_task(heap, reading, text, number)?;
+    reading.hours = Some(read_header(text, &mut reading.report)?);
     Ok(())
 }
 
 // Without a header, the last line lacks it.
-fn check_header(
-    heap: Global,
-    hours: usize,
-    number: usize,
-    mistakes: &mut Vec<Mistake>,
-) -> Result<(), AllocError>
-    ensures { OnOk result (told mistakes.new ≡ told mistakes.old ++ no_header number hours) }
+fn check_header(hours: Option<usize>, report: &mut Report) -> Result<(), AllocError>
+    ensures { OnOk result (Blamed report.old report.new (no_header report.old.line hours)) }
 {
-    if hours == 0 {
-        blame(heap, mistakes, number, Fault::Header, &[])?;
+    if hours.is_none() {
+        report.blame(Fault::Header, &[])?;
     }
     Ok(())
 }
@@ -105,19 +73,16 @@ pub fn read_lines(heap: Global, text: &[u8]) -> Result<Reading, AllocError>
     ensures { IfOk result (λ g. Read text.now g) }
 {
     let mut reading = Reading {
-        hours: 0,
+        hours: None,
         tasks: Vec::new(heap),
         names: Vec::new(heap),
-        mistakes: Vec::new(heap),
+        report: Report::new(heap),
     };
-    let mut number = 1;
-    let mut rest = text;
-    while let Some((line, after)) = split_once(rest, Mark::Byte(b'\n')) {
-        read_line(heap, &mut reading, line, number)?;
-        rest = after;
-        number += 1;
+    for line in Lines::of(text) {
+        // counted in the report, where every mistake takes its line from
+        reading.report.line += 1;
+        read_line(&mut reading, line)?;
     }
-    read_line(heap, &mut reading, rest, number)?;
-    check_header(heap, reading.hours, number, &mut reading.mistakes)?;
+    check_header(reading.hours, &mut reading.report)?;
     Ok(reading)
 }

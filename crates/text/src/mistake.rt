@@ -1,8 +1,4 @@
 // What is wrong with a text, and where.
-ghost use Rattle.std.specs.Prelude.{◌≡◌, [], ◌∷◌, ◌++◌, OnOk};
-ghost use Rattle.text.specs.Told.{told};
-
-use std::alloc::{AllocError, Global};
 use std::fmt;
 
 #[derive(Clone, Copy, PartialEq, Eq, Debug)]
@@ -34,7 +30,7 @@ pub enum Fault {
 }
 
 impl Fault {
-    // Whether its message has the word that it is about.
+    // Whether its message has the word that it is about: a mistake's fields are public, so one may have a word that it isn't about.
     fn has_word(self) -> bool {
         matches!(
             self,
@@ -48,22 +44,8 @@ impl Fault {
 pub struct Mistake {
     pub line: usize,
     pub fault: Fault,
+    // A word in the variants of `Fault` would make it own memory, and no longer `Copy`.
     pub found: Vec<u8>,
-}
-
-// A mistake more.
-pub(crate) fn blame(
-    heap: Global,
-    mistakes: &mut Vec<Mistake>,
-    line: usize,
-    fault: Fault,
-    word: &[u8],
-) -> Result<(), AllocError>
-    ensures { OnOk result (told mistakes.new ≡ told mistakes.old ++ (line, fault, word.now) ∷ []) }
-{
-    let found = Vec::from_slice(heap, word)?;
-    mistakes.push(Mistake { line, fault, found })?;
-    Ok(())
 }
 
 // What is said before the word.

@@ -3,6 +3,7 @@ ghost use Rattle.std.specs.Prelude.{◌≡◌};
 ghost use Rattle.text.specs.Number.{numeral};
 
 // The number that a word of digits writes; nothing for any other word. Numbers too large for u32 are read as its largest.
+// Not `parse`, which refuses a number that is too large and takes a sign.
 pub fn number(word: &[u8]) -> Option<u32>
     ensures { result ≡ numeral word.now }
 {

@@ -5,7 +5,7 @@ ghost use Rattle.text.specs.Span.{from_to, spanned, lies};
 
 use crate::mistake::Fault;
 use crate::number::number;
-use crate::piece::{Mark, split_once};
+use crate::piece::split_once;
 use sets::hours::Hours;
 
 // From one hour to another, with both.
@@ -19,10 +19,8 @@ pub struct Span {
 fn ends(word: &[u8]) -> (Option<u32>, Option<u32>)
     ensures { (n : ℕ) → spanned n word.now ≡ from_to n result.0 result.1 }
 {
-    match split_once(word, Mark::Byte(b'-')) {
-        Some((from, to)) => (number(from), number(to)),
-        None => (number(word), number(word)),
-    }
+    let (from, to) = split_once(word, b'-').unwrap_or((word, word));
+    (number(from), number(to))
 }
 
 // The hours of a word, `5` or `0-4`, all below `hours`; or what is wrong with it.

@@ -1,14 +1,17 @@
 // Why a text is not read, before its lines are.
-ghost use Rattle.std.specs.Prelude.{◌≡◌, ◌^◌, ◌≤◌, length, MatchOption};
+ghost use Rattle.std.specs.Prelude.{◌≡◌, ◌^◌, ◌≤◌, [], length, MatchResult, ◌≢◌};
+ghost use Rattle.text.specs.declared.unread.ReadError.TheVariants.{Memory, Mistakes};
 ghost use Rattle.text.specs.Lines.{lines};
 ghost use Rattle.text.specs.Unread.{Alone, Fit, Rejects};
 
-use crate::mistake::{Fault, Mistake, blame};
-use crate::piece::{Mark, split_once};
-use std::alloc::Global;
+use crate::mistake::{Fault, Mistake};
+use crate::piece::Lines;
+use crate::report::Report;
+use std::alloc::{AllocError, Global};
 use std::fmt;
 
-// The longest text that is read, in bytes.
+// The longest text that is read, in bytes. The three functions that walk over lines ask for it by a clause: a type for a text that is short
+// enough would be made only to be taken apart.
 pub const MAX_TEXT: usize = 1 << 20;
 
 // Why a text was not read.
@@ -35,15 +38,34 @@ impl fmt::Display for ReadError {
     }
 }
 
-// One mistake.
-fn alone(heap: Global, line: usize, fault: Fault) -> ReadError
-    ensures { Alone line fault result }
-{
-    let mut mistakes = Vec::new(heap);
-    match blame(heap, &mut mistakes, line, fault, &[]) {
-        Ok(()) => ReadError::Mistakes(mistakes),
-        Err(_) => ReadError::Memory,
+// There was no memory.
+impl From<AllocError> for ReadError {
+    ghost from_gives = { λ _ e. e ≡ Memory };
+
+    fn from(_: AllocError) -> ReadError {
+        ReadError::Memory
     }
+}
+
+// A text with no mistake is read.
+pub(crate) fn accept(mistakes: Vec<Mistake>) -> Result<(), ReadError>
+    ensures { MatchResult result (λ _. mistakes.items ≡ []) (λ e. (e ≡ Mistakes mistakes) × (mistakes.items ≢ [])) }
+{
+    if mistakes.is_empty() {
+        Ok(())
+    } else {
+        Err(ReadError::Mistakes(mistakes))
+    }
+}
+
+// A text with one mistake is not read.
+fn refuse(heap: Global, line: usize, fault: Fault) -> Result<(), ReadError>
+    ensures { MatchResult result (λ _. ⊥) (λ e. Alone line fault e) }
+{
+    let mut report = Report::new(heap);
+    report.line = line;
+    report.blame(fault, &[])?;
+    Err(ReadError::Mistakes(report.mistakes))
 }
 
 // How many lines there are.
@@ -51,25 +73,21 @@ fn count_lines(text: &[u8]) -> usize
     requires { length text.now ≤ 2 ^ 20 }
     ensures { result ≡ length (lines text.now) }
 {
-    let mut count = 1;
-    let mut rest = text;
-    while let Some((_line, after)) = split_once(rest, Mark::Byte(b'\n')) {
-        count += 1;
-        rest = after;
-    }
-    count
+    Lines::of(text).count()
 }
 
 // A text that is too long, or not UTF-8, is not read.
-pub(crate) fn reject(heap: Global, text: &[u8]) -> Option<ReadError>
-    ensures { MatchOption result (Fit text.now) (λ e. Rejects text.now e) }
+pub(crate) fn reject(heap: Global, text: &[u8]) -> Result<(), ReadError>
+    ensures { MatchResult result (λ _. Fit text.now) (λ e. Rejects text.now e) }
 {
     if text.len() > MAX_TEXT {
-        return Some(alone(heap, 1, Fault::Long));
+        return refuse(heap, 1, Fault::Long);
     }
-    if let Err(error) = std::str::from_utf8(text) {
-        let line = count_lines(&text[0..error.valid_up_to()]);
-        return Some(alone(heap, line, Fault::Letters));
+    match std::str::from_utf8(text) {
+        Ok(_) => Ok(()),
+        Err(error) => {
+            let line = count_lines(&text[..error.valid_up_to()]);
+            refuse(heap, line, Fault::Letters)
+        }
     }
-    None
 }

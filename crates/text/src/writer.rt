@@ -2,6 +2,7 @@
 ghost use Rattle.std.specs.Prelude.{◌≡◌, ℕ, ◌<◌, ◌++◌, string_bytes, MatchResult, OnOk};
 ghost use Rattle.sets.specs.Hours.{has};
 ghost use Rattle.night.specs.Night.{hours_of, tasks_of};
+ghost use Rattle.text.specs.declared.writer.WriteError.TheVariants.{Memory};
 ghost use Rattle.text.specs.Written.{follows, hour_text, hours_text, label, task_text, name_at, odd, plain, tasks_text, night_text, Wrote, Refuses};
 
 use night::night::Night;
@@ -18,6 +19,14 @@ pub enum WriteError {
     Name(usize),
 }
 
+impl From<AllocError> for WriteError {
+    ghost from_gives = { λ _ e. e ≡ Memory };
+
+    fn from(_: AllocError) -> WriteError {
+        WriteError::Memory
+    }
+}
+
 // Whether the hour before k is in the set.
 fn follows_one(hours: Hours, k: usize) -> bool
     ensures { result ≡ follows (has hours) k }
@@ -26,7 +35,7 @@ fn follows_one(hours: Hours, k: usize) -> bool
 }
 
 // Hour k, where a run of hours begins or ends with it.
-fn write_hour(heap: Global, out: &mut String, hours: Hours, k: usize) -> Result<(), AllocError>
+fn write_hour(out: &mut String, hours: Hours, k: usize) -> Result<(), AllocError>
     requires { k < 96 }
     ensures { OnOk result (string_bytes out.new ≡ string_bytes out.old ++ hour_text (has hours) k) }
 {
@@ -34,25 +43,21 @@ fn write_hour(heap: Global, out: &mut String, hours: Hours, k: usize) -> Result<
         return Ok(());
     }
     if !follows_one(hours, k) {
-        let text = format!(in heap; " {k}")?;
-        out.push_str(text.as_str())?;
-        return Ok(());
+        return write!(out, " {k}");
     }
     if hours.contains(k + 1) {
         return Ok(());
     }
-    let text = format!(in heap; "-{k}")?;
-    out.push_str(text.as_str())?;
-    Ok(())
+    write!(out, "-{k}")
 }
 
 // The hours of a set that lie below `count`.
-fn write_hours(heap: Global, out: &mut String, hours: Hours, count: usize) -> Result<(), AllocError>
+fn write_hours(out: &mut String, hours: Hours, count: usize) -> Result<(), AllocError>
     requires { count < 97 }
     ensures { OnOk result (string_bytes out.new ≡ string_bytes out.old ++ hours_text (has hours) count) }
 {
     for k in 0..count {
-        write_hour(heap, out, hours, k)?;
+        write_hour(out, hours, k)?;
     }
     Ok(())
 }
@@ -64,28 +69,19 @@ fn write_label(out: &mut String, name: &str) -> Result<(), AllocError>
     if name.is_empty() {
         return Ok(());
     }
-    out.push_str(name)?;
-    out.push_str(" ")?;
-    Ok(())
+    write!(out, "{name} ")
 }
 
 // The line of a task.
-fn write_task(
-    heap: Global,
-    out: &mut String,
-    name: &str,
-    task: Task,
-    hours: usize,
-) -> Result<(), AllocError>
+fn write_task(out: &mut String, name: &str, task: Task, hours: usize) -> Result<(), AllocError>
     requires { hours < 97 }
     ensures { OnOk result (string_bytes out.new ≡ string_bytes out.old ++ task_text hours name.now task) }
 {
     write_label(out, name)?;
     let units = task.units;
-    let text = format!(in heap; "{units} :")?;
-    out.push_str(text.as_str())?;
-    write_hours(heap, out, task.hours, hours)?;
-    out.push_str("\n")?;
+    write!(out, "{units} :")?;
+    write_hours(out, task.hours, hours)?;
+    writeln!(out)?;
     Ok(())
 }
 
@@ -93,36 +89,25 @@ fn write_task(
 fn name_of(names: &[String], j: usize) -> &str
     ensures { result.now ≡ name_at names.now j }
 {
-    if j < names.len() {
-        names[j].as_str()
-    } else {
-        ""
-    }
+    names.get(j).map_or("", |name| name.as_str())
 }
 
 // Whether the byte b would end a name.
 fn ends_name(b: u8) -> bool
     ensures { result ≡ odd b }
 {
-    b == b'\n' || b == b'#' || b == b':'
+    matches!(b, b'\n' | b'#' | b':')
 }
 
 // Whether a name has no byte that would end it.
 fn is_plain(name: &str) -> bool
     ensures { result ≡ plain name.now }
 {
-    let bytes = name.as_bytes();
-    for b in bytes {
-        if ends_name(*b) {
-            return false;
-        }
-    }
-    true
+    name.as_bytes().iter().all(|b| !ends_name(*b))
 }
 
 // The lines of the tasks, up to a name that can't be written.
 fn write_tasks(
-    heap: Global,
     out: &mut String,
     tasks: &[Task],
     names: &[String],
@@ -133,14 +118,12 @@ fn write_tasks(
         (λ _. Wrote tasks.now names.now (string_bytes out.new) (string_bytes out.old ++ tasks_text hours tasks.now names.now))
         (λ e. Refuses tasks.now names.now e) }
 {
-    for j in 0..tasks.len() {
+    for (j, task) in tasks.iter().enumerate() {
         let name = name_of(names, j);
         if !is_plain(name) {
             return Err(WriteError::Name(j));
         }
-        let Ok(()) = write_task(heap, out, name, tasks[j], hours) else {
-            return Err(WriteError::Memory);
-        };
+        write_task(out, name, *task, hours)?;
     }
     Ok(())
 }
@@ -152,11 +135,7 @@ pub fn write_text(heap: Global, night: &Night, names: &[String]) -> Result<Strin
         (λ e. Refuses (tasks_of night.now) names.now e) }
 {
     let hours = night.hours();
-    let Ok(mut out) = format!(in heap; "hours {hours}\n") else {
-        return Err(WriteError::Memory);
-    };
-    match write_tasks(heap, &mut out, night.tasks(), names, hours) {
-        Ok(()) => Ok(out),
-        Err(error) => Err(error),
-    }
+    let mut out = format!(in heap; "hours {hours}\n")?;
+    write_tasks(&mut out, night.tasks(), names, hours)?;
+    Ok(out)
 }

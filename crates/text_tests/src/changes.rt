@@ -15,21 +15,15 @@ fn task(units: u32, hours: Hours) -> Task {
 
 // 3 hours, 5 units in hours 0 and 1, and 1 unit in hour 2, as many times as asked.
 fn three_hours(heap: Global, tasks: usize) -> Result<Night, Fail> {
-    let mut all = Vec::new(heap);
-    for j in 0..tasks {
-        if j == 0 {
-            all.push(task(5, Hours::below(2)))?;
-        } else {
-            all.push(task(1, Hours::only(2)))?;
-        }
+    let mut all = vec![in heap; task(1, Hours::only(2)); tasks]?;
+    if let Some(first) = all.first_mut() {
+        *first = task(5, Hours::below(2));
     }
-    match Night::new(3, all) {
-        Some(night) => Ok(night),
-        None => Err(Fail::new("no night")),
-    }
+    Ok(Night::new(3, all).ok_or("no night")?)
 }
 
-// The units of each task after the row, or the place of its refusal behind a task of 999.
+// The units of each task after the row, or the place of its refusal behind a task of 999: a list in either case, which the
+// values of the tests are.
 fn outcome(heap: Global, tasks: usize, row: &[Change]) -> Result<Vec<u32>, Fail> {
     let night = three_hours(heap, tasks)?;
     let mut units = Vec::new(heap);
@@ -110,8 +104,7 @@ fn loads(heap: Global, row: &[Change]) -> Result<Vec<(u64, u64)>, Fail> {
     let night = three_hours(heap, 3)?;
     let mut all = Vec::new(heap);
     if let Ok(evening) = prepare(heap, &night, row) {
-        for s in 0..3 {
-            let load = evening.planned.levels.loads[s];
+        for load in evening.planned.levels.loads.iter().take(3) {
             all.push((load.num(), load.den()))?;
         }
     }

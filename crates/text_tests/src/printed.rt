@@ -13,16 +13,14 @@ fn night(rt: HostRuntime) -> Result<(), Fail> {
     let mut amounts = [0; 192];
     amounts[0] = 6;
     amounts[97] = 2;
-    match plan_text(rt.alloc(), &loads, &[1, 1], &amounts) {
-        Ok(text) => {
-            assert_eq!(rt;
-                text.as_str(),
-                "hour 0 load 6\nhour 1 load 2\ntask 0 hour 0 amount 6\ntask 1 hour 1 amount 2\n"
-            );
-            Ok(())
-        },
-        Err(_) => Err(Fail::new("a plan is not printed")),
-    }
+    let text = plan_text(rt.alloc(), &loads, &[1, 1], &amounts).map_err(|_| Fail::new(
+        "a plan is not printed",
+    ))?;
+    assert_eq!(rt;
+        text.as_str(),
+        "hour 0 load 6\nhour 1 load 2\ntask 0 hour 0 amount 6\ntask 1 hour 1 amount 2\n"
+    );
+    Ok(())
 }
 
 #[test]

@@ -1,6 +1,8 @@
 // Nights and changes as text.
 use change::kinds::Change;
 use std::alloc::Global;
+use std::fmt::Display;
+use std::process::Abort;
 use std::test::Fail;
 use text::changes::read_changes;
 use text::reader::read_text;
@@ -87,32 +89,35 @@ const NO_CHANGE: [(&[u8], &str); 4] = [
     ),
 ];
 
+// Whether a text is refused with these words.
+fn refuses<T: Drop, E: Display + Drop>(
+    rt: &impl Abort,
+    heap: Global,
+    read: Result<T, E>,
+    said: &str,
+) -> Result<(), Fail> {
+    match read {
+        Ok(_) => return Err(Fail::new(said)),
+        Err(e) => assert_eq!(rt; e.to_string(heap)?.as_str(), said),
+    }
+    Ok(())
+}
+
 #[test]
 fn mistakes(rt: HostRuntime) -> Result<(), Fail> {
     for (text, said) in WRONG {
-        match read_text(rt.alloc(), text) {
-            Ok(_) => return Err(Fail::new(said)),
-            Err(e) => assert_eq!(rt; e.to_string(rt.alloc())?.as_str(), said),
-        }
+        refuses(&rt, rt.alloc(), read_text(rt.alloc(), text), said)?;
     }
     for (text, said) in NO_CHANGE {
-        match read_changes(rt.alloc(), text) {
-            Ok(_) => return Err(Fail::new(said)),
-            Err(e) => assert_eq!(rt; e.to_string(rt.alloc())?.as_str(), said),
-        }
+        refuses(&rt, rt.alloc(), read_changes(rt.alloc(), text), said)?;
     }
     Ok(())
 }
 
 // A text read and written.
 fn again(heap: Global, text: &[u8]) -> Result<String, Fail> {
-    match read_text(heap, text) {
-        Ok(read) => match write_text(heap, &read.night, read.names.as_slice()) {
-            Ok(written) => Ok(written),
-            Err(_) => Err(Fail::new("not written")),
-        },
-        Err(_) => Err(Fail::new("not read")),
-    }
+    let read = read_text(heap, text).map_err(|_| Fail::new("not read"))?;
+    write_text(heap, &read.night, read.names.as_slice()).map_err(|_| Fail::new("not written"))
 }
 
 #[test]

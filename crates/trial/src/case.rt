@@ -19,27 +19,22 @@ pub struct Case {
     pub paper: Paper,
 }
 
-// Whether the night has the draft's hours and tasks.
+// Whether the night has the draft's hours and tasks. No ==, here and below: both types are of other crates.
 pub fn is_as(night: &Night, draft: &Draft) -> bool {
-    if night.hours() != draft.hours || night.tasks().len() != draft.jobs.len() {
-        return false;
-    }
-    for (task, job) in night.tasks().iter().zip(draft.jobs.iter()) {
-        if task.units != job.units || task.hours.bits() != job.bits {
-            return false;
-        }
-    }
-    true
+    let (tasks, jobs) = (night.tasks(), draft.jobs.as_slice());
+    night.hours() == draft.hours
+        && tasks.len() == jobs.len()
+        && tasks.iter().zip(jobs.iter()).all(|(task, job)| task.units == job.units
+            && task.hours.bits() == job.bits)
 }
 
 // Whether the sheet has the loads of the plan, in lowest terms.
 pub fn has_loads(paper: &Paper, loads: &[Fraction; 96]) -> bool {
-    for (a, b) in paper.loads.iter().zip(loads.iter()) {
-        if a.units != b.num() || a.hours != b.den() {
-            return false;
-        }
-    }
-    true
+    paper
+        .loads
+        .iter()
+        .zip(loads.iter())
+        .all(|(a, b)| a.units == b.num() && a.hours == b.den())
 }
 
 // The night of the draft, read from bytes.

@@ -9,51 +9,30 @@ mod mistakes;
 mod plans;
 mod sheets;
 mod tally;
+mod trials;
 
 use anyhow::anyhow;
-use case::Case;
-use oracle::draft::Draft;
 use oracle::draw::Draw;
 use oracle::kinds;
-use std::alloc::Global;
 use std::env;
-use tally::{Count, Tally};
+use tally::Tally;
+use trials::Trial;
 
 // A word as a number, or the default where it is missing.
 fn number(word: Option<String>, default: u64) -> anyhow::Result<u64> {
     let Some(text) = word else {
         return Ok(default);
     };
-    match text.as_str().parse::<u64>() {
-        Ok(n) => Ok(n),
-        Err(_) => Err(anyhow!("usage: trial [SEED] [COUNT]")),
-    }
-}
-
-// Tries all that is tried with a night.
-fn try_night(
-    heap: Global,
-    draw: &mut Draw,
-    draft: &Draft,
-    tally: &mut Tally,
-) -> anyhow::Result<()> {
-    let case = Case::new(heap, draft.copied(heap)?)?;
-    tally.add(Count::Night);
-    if case.is_small() {
-        plans::try_slow(heap, &case)?;
-        tally.add(Count::Small);
-        flows::try_flows(heap, draw, draft, tally)?;
-    }
-    plans::try_others(heap, draw, &case, tally)?;
-    sheets::try_sheets(heap, draw, &case, tally)?;
-    changes::try_changes(heap, draw, &case, tally)
+    text.as_str()
+        .parse::<u64>()
+        .map_err(|_| anyhow!("usage: trial [SEED] [COUNT]"))
 }
 
 // Tries night n of the seed, and says which night it is where something differs.
-fn try_nth(rt: &HostRuntime, seed: u64, n: u64, tally: &mut Tally) -> anyhow::Result<()> {
-    let mut draw = Draw::new(seed.wrapping_mul(0x1_0000_0000).wrapping_add(n));
-    let draft = kinds::night(rt.alloc(), &mut draw, kinds::nth(n))?;
-    let tried = try_night(rt.alloc(), &mut draw, &draft, tally);
+fn try_nth(rt: &HostRuntime, trial: &mut Trial, seed: u64, n: u64) -> anyhow::Result<()> {
+    trial.draw = Draw::new(seed.wrapping_mul(0x1_0000_0000).wrapping_add(n));
+    let draft = kinds::night(trial.heap, &mut trial.draw, &kinds::nth(n))?;
+    let tried = trial.try_night(&draft);
     if tried.is_err() {
         println!(rt; "seed {seed} night {n}: {draft}")?;
     }
@@ -65,10 +44,15 @@ fn run(rt: &HostRuntime) -> anyhow::Result<()> {
     let _ = words.next();
     let seed = number(words.next(), 1)?;
     let count = number(words.next(), 2000)?;
-    let mut tally = Tally::new();
+    let mut trial = Trial {
+        heap: rt.alloc(),
+        draw: Draw::new(seed),
+        tally: Tally::default(),
+    };
     for n in 0..count {
-        try_nth(rt, seed, n, &mut tally)?;
+        try_nth(rt, &mut trial, seed, n)?;
     }
+    let tally = &trial.tally;
     print!(rt; "{tally}")?;
     mistakes::show(rt)
 }

@@ -1,23 +1,11 @@
 // What a night is made of.
-ghost use Rattle.std.specs.Prelude.{◌≡◌, ℕ, ◌<◌, length, Decides, MatchOption, slice_index_or};
+ghost use Rattle.std.specs.Prelude.{◌≡◌, MatchOption};
 ghost use Rattle.night.specs.Night.{hours_of, tasks_of};
-ghost use Rattle.night.specs.Task.{blank_task, Fits, Sound};
+ghost use Rattle.night.specs.Task.{Sound};
 
 use super::Night;
 use crate::limits::{MAX_HOURS, MAX_TASKS};
 use crate::task::Task;
-
-// Whether a night of n hours can have each of the tasks.
-fn all_fit(tasks: &[Task], n: usize) -> bool
-    ensures { Decides result ((j : ℕ) → j < length tasks.now → Fits n (slice_index_or tasks.now j blank_task)) }
-{
-    for task in tasks {
-        if !task.fits(n) {
-            return false;
-        }
-    }
-    true
-}
 
 impl Night {
     // A night of so many hours with these tasks, unless they are none of a night.
@@ -27,7 +15,7 @@ impl Night {
         if hours == 0 || hours > MAX_HOURS || tasks.len() > MAX_TASKS {
             return None;
         }
-        if !all_fit(tasks.as_slice(), hours) {
+        if !tasks.iter().all(|task| task.fits(hours)) {
             return None;
         }
         Some(Night { hours, tasks })

@@ -4,6 +4,7 @@ ghost use Rattle.night.specs.Format.{task_bytes, night_bytes};
 ghost use Rattle.night.specs.Night.{hours_of, tasks_of};
 
 use super::Night;
+use super::layout::row_width;
 use crate::bytes::push_little;
 use crate::task::Task;
 use std::alloc::{AllocError, Global};
@@ -21,7 +22,7 @@ fn push_task(out: &mut Vec<u8>, task: Task, row: usize) -> Result<(), AllocError
 pub fn write(heap: Global, night: &Night) -> Result<Vec<u8>, AllocError>
     ensures { IfOk result (λ v. v.items ≡ night_bytes (hours_of night.now) (tasks_of night.now)) }
 {
-    let row = (night.hours + 7) / 8;
+    let row = row_width(night.hours);
     let tasks = night.tasks.as_slice();
     let mut out = Vec::new(heap);
     out.push(night.hours as u8)?;

@@ -15,8 +15,6 @@ use std::test::Fail;
 // A byte that may be another: its place, which of its bits count, and the values of these with which the sheet is accepted, as binary digits.
 type Free = (usize, u8, u8);
 
-const BIT: [u8; 8] = [1, 2, 4, 8, 16, 32, 64, 128];
-
 // A night, the bytes of its sheet that may be others, and how many changed sheets are accepted.
 const CASES: [(Given, &[Free], usize); 4] = [
     (
@@ -44,13 +42,10 @@ const CASES: [(Given, &[Free], usize); 4] = [
 
 // Whether the sheet is accepted with this byte at this place.
 fn may_be(free: &[Free], at: usize, byte: u8) -> bool {
-    for (place, counts, values) in free {
-        let value = (byte & *counts) as usize;
-        if at == *place && value < 8 {
-            return *values & BIT[value] != 0;
-        }
-    }
-    false
+    free.iter().any(|(place, counts, values)| {
+        let value = byte & *counts;
+        at == *place && value < 8 && (*values >> value) & 1 == 1
+    })
 }
 
 // How many other bytes at a place are accepted, if they are just those that may be.
@@ -78,6 +73,7 @@ fn changed(rt: HostRuntime) -> Result<(), Fail> {
         let night = night_of(rt.alloc(), given)?;
         let mut sheet = planned(rt.alloc(), &night)?;
         let mut count = 0usize;
+        // by index, since the whole sheet is checked while one byte of it is another
         for at in 0..sheet.len() {
             count = count.saturating_add(accepted(&rt, &night, &mut sheet, free, at));
         }

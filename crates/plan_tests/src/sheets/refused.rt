@@ -1,6 +1,6 @@
 // Sheets whose numbers are wrong.
 use crate::given::{A, B, C, Given};
-use crate::sheets::numbers::{Numbers, gets};
+use crate::sheets::numbers::{Numbers, all_refused};
 use sheet::refusal::Refusal;
 use std::test::Fail;
 
@@ -230,8 +230,5 @@ const CASES: [(&str, Given, Numbers, Refusal); 29] = [
 
 #[test]
 fn refused(rt: HostRuntime) -> Result<(), Fail> {
-    for (name, night, sheet, refusal) in CASES {
-        gets(&rt, rt.alloc(), name, night, sheet, Err(refusal))?;
-    }
-    Ok(())
+    all_refused(&rt, rt.alloc(), &CASES)
 }

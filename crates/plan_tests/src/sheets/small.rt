@@ -1,7 +1,7 @@
 // The sheet of a small night, and what it is with other bytes.
+use crate::given::{A, night_of};
 use fraction::Fraction;
 use night::night::Night;
-use night::task::Task;
 use sets::hours::Hours;
 use sheet::check;
 use sheet::refusal::Refusal;
@@ -40,19 +40,6 @@ const CASES: [([(usize, u8); 4], Refusal); 12] = [
     ([(29, 128), (38, 128), (0, 6), (0, 6)], Refusal::Load(0)),
 ];
 
-fn night(heap: Global) -> Result<Night, Fail> {
-    let mut tasks = Vec::new(heap);
-    tasks.push(Task {
-        units: 6,
-        hours: Hours::only(0),
-    })?;
-    tasks.push(Task {
-        units: 2,
-        hours: Hours::below(2),
-    })?;
-    Ok(Night::new(2, tasks).ok_or("no night")?)
-}
-
 // The sheet with some bytes that are others.
 fn edited(edits: [(usize, u8); 4]) -> [u8; 47] {
     let mut sheet = SHEET;
@@ -66,7 +53,7 @@ fn edited(edits: [(usize, u8); 4]) -> [u8; 47] {
 
 #[test]
 fn table(rt: HostRuntime) -> Result<(), Fail> {
-    let night = night(rt.alloc())?;
+    let night = night_of(rt.alloc(), A)?;
     for (edits, wrong) in CASES {
         assert_eq!(rt; check(&night, &edited(edits)), Err(wrong), "{edits:?}");
     }
@@ -75,7 +62,7 @@ fn table(rt: HostRuntime) -> Result<(), Fail> {
 
 #[test]
 fn right(rt: HostRuntime) -> Result<(), Fail> {
-    let night = night(rt.alloc())?;
+    let night = night_of(rt.alloc(), A)?;
     assert_eq!(rt; check(&night, &SHEET), Ok(()));
     // bits from the hours on say nothing
     assert_eq!(rt;
@@ -109,7 +96,7 @@ fn written(night: &Night, sheet: &mut [u8]) -> Result<usize, Unwritten> {
 
 #[test]
 fn writes(rt: HostRuntime) -> Result<(), Fail> {
-    let night = night(rt.alloc())?;
+    let night = night_of(rt.alloc(), A)?;
     assert_eq!(rt; sheet_len(&night, 2), 47);
     let mut sheet = [9; 50];
     assert_eq!(rt; written(&night, &mut sheet), Ok(47));

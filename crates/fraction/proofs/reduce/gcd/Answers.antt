@@ -1,11 +1,10 @@
-use Rattle.std.proofs.Common.{◌≡◌, arith}
-use Rattle.fraction.proofs.Fractions.{greatest_step, greatest_end}
+use Rattle.std.proofs.Common.{arith}
+use Rattle.std.proofs.lemmas.Nat.Gcd.{IsGcd-from_zero, IsGcd-from_mod}
+use Rattle.fraction.proofs.Fractions.{greatest}
 use Rattle.fraction.proofs.reduce.gcd.Goals as goal
 
 pub loop-small-preserved : goal.loop-small-preserved
-loop-small-preserved c g s = c.loop-small.invariant g (greatest_step g _ _ s)
+loop-small-preserved c g s = c.loop-small.invariant g (IsGcd-from_mod _ _ g s)
 
 pub returns : goal.returns
-returns c =
-    let z : c.loop-small.small ≡ 0 = omega arith in
-    c.loop-small.invariant c.loop-small.big (rw z (greatest_end _))
+returns c = greatest _ _ _ (c.loop-small.invariant _ (IsGcd-from_zero _ _ (omega arith)))

@@ -22,4 +22,4 @@ returns c =
     (subst (λ n. Walking n (tasks_of c.args.night.now) r.parts r.flows r.longest c.args.plan.now c.walk-walked.new.plan c.args.work.now c.walk-walked.new.work) c.hours.ensures
     (subst (λ ts. Walking c.hours.result ts r.parts r.flows r.longest c.args.plan.now c.walk-walked.new.plan c.args.work.now c.walk-walked.new.work) c.tasks.ensures
     c.walk-walked.ensures.walked))
-    c.walk-walked.ensures.done c.walk-walked.ensures.shared c.loads-all.ensures.same c.loads-all.ensures.long
+    c.walk-walked.ensures.done c.walk-walked.ensures.shared c.loads-all.ensures (omega arith)

@@ -4,5 +4,5 @@ use Rattle.sets.specs.Hours.{has}
 use Rattle.night.specs.Task.{may}
 use Rattle.level.proofs.start.used.Given as goal
 
-abbrev pub invariant-loop-j : goal.invariant-loop-j
-invariant-loop-j l = (s : ℕ) → has l.all s ≡ any l.j (λ i. may l.tasks i s)
+abbrev pub invariant-tasks : goal.invariant-tasks
+invariant-tasks l = (s : ℕ) → has l.all s ≡ any l.task-index (λ i. may l.tasks i s)

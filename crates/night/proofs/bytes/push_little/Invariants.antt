@@ -2,6 +2,6 @@ use Rattle.std.proofs.Common.{◌≡◌, ◌/◌, ◌^◌, ◌++◌, vec_items}
 use Rattle.night.specs.Bytes.{digits}
 use Rattle.night.proofs.bytes.push_little.Given as goal
 
-abbrev pub invariant-loop-i : goal.invariant-loop-i
-invariant-loop-i l =
-    (vec_items l.out ≡ vec_items l.initial.out ++ digits l._i l.n) × (l.rest ≡ l.n / 256 ^ l._i)
+abbrev pub invariant-loop : goal.invariant-loop
+invariant-loop l =
+    (vec_items l.out ≡ vec_items l.initial.out ++ digits l.counter l.n) × (l.rest ≡ l.n / 256 ^ l.counter)

@@ -1,6 +1,6 @@
 use Rattle.std.proofs.Common.{◌≡◌, ◌+◌, ◌-◌, min, get_or, ap, ◌∙◌, arith}
 use Rattle.oracle.specs.Little.{little}
-use Rattle.oracle.proofs.Numbers.{little_start, little_step, little_bound, little_room}
+use Rattle.oracle.proofs.Numbers.{item_read, little_start, little_step, little_bound, little_room}
 use Rattle.oracle.proofs.bytes.number.Goals as goal
 
 pub loop-i-init : goal.loop-i-init
@@ -24,7 +24,9 @@ loop-i-preserved c = (
   λ f.
       let e : c.saturating_add.result ≡ c.args.at + (c.loop-i.i - 1) = omega (arith, c.saturating_add.ensures) in
       let g : c.from.result ≡ get_or c.args.bytes.now (c.args.at + (c.loop-i.i - 1)) 0 =
-      c.from.ensures ∙ c.byte.ensures ∙ ap (λ k. get_or c.args.bytes.now k 0) e in
+      c.from.ensures
+      ∙ item_read c.args.bytes.now c.saturating_add.result c.item.result c.item.ensures
+      ∙ ap (λ k. get_or c.args.bytes.now k 0) e in
       rw g
       (little_step c.args.bytes.now c.args.at c.min-w.result c.loop-i.i c.loop-i.n (omega arith)
       (omega arith) (c.loop-i.invariant.0 f)),

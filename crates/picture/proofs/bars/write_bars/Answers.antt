@@ -10,8 +10,8 @@ loop-s-init c = concat_none _ _
 pub loop-s-preserved : goal.loop-s-preserved
 loop-s-preserved c =
     concat_more _ _ _ _ _ _ c.loop-s.invariant c.in_ok-write_bar.ensures
-    (line_is c.args.drawn c.args.most.num c.args.most.den c.loop-s.s _ _ _ _ _ c.mark_in-mark.ensures c.group_of.ensures c.load_of-load.ensures.0
-    c.load_of-load.ensures.1 c.bar.ensures.value)
+    (line_is c.args.drawn c.args.most.num c.args.most.den c.loop-s.s _ _ _ _ _ c.mark_in-mark.ensures c.group.ensures c.load-load.ensures.0
+    c.load-load.ensures.1 c.bar.ensures.value)
 
 pub returns : goal.returns
 returns c =

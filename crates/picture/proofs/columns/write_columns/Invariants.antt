@@ -6,4 +6,5 @@ use Rattle.picture.proofs.columns.write_columns.Given as goal
 abbrev pub invariant-loop-s : goal.invariant-loop-s
 invariant-loop-s l =
     string_bytes l.out
-    ≡ string_bytes l.initial.out ++ concat l.s (column_at l.drawn l.frame.column l.most.num l.most.den)
+    ≡ string_bytes l.initial.out
+    ++ concat l.s (column_at l.chart.drawn l.chart.frame.column l.chart.most.num l.chart.most.den)

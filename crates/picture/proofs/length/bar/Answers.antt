@@ -5,8 +5,5 @@ use Rattle.picture.proofs.length.bar.Goals as goal
 pub returns-then-all-eq0 : goal.returns-then-all-eq0
 returns-then-all-eq0 c = bar_none _ _ _ _ _ c.args.load.some (search rules)
 
-pub returns-then-long-full : goal.returns-then-long-full
-returns-then-long-full c = bar_some _ _ _ _ _ c.args.most.some (search rules) _ (search rules)
-
-pub returns-else-long-full : goal.returns-else-long-full
-returns-else-long-full c = bar_some _ _ _ _ _ c.args.most.some (search rules) _ (search rules)
+pub returns : goal.returns
+returns c = bar_some _ _ _ _ _ c.args.most.some (search rules) _ (search rules)

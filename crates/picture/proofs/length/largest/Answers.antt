@@ -1,8 +1,10 @@
-use Rattle.picture.proofs.Drawing.{num_is, den_is, sofar_more}
+use Rattle.std.proofs.lemmas.Iterator.{YieldsList-from_slice}
+use Rattle.std.proofs.lemmas.Iterator.Consumers.{reduce_from_yields_List, YieldsList-from_copied}
+use Rattle.picture.proofs.Drawing.{larger, largest_is}
 use Rattle.picture.proofs.length.largest.Goals as goal
 
-pub loop-k-preserved : goal.loop-k-preserved
-loop-k-preserved c =
-    sofar_more _ _ _ _ _ (num_is _ _ _ c.loop-k-test.true c.index-loads-k.is)
-    (den_is _ _ _ c.loop-k-test.true c.index-loads-k.is) c.larger-most.ensures.second c.larger-most.ensures.first
-    c.loop-k.invariant
+pub returns : goal.returns
+returns c =
+    largest_is _ _ c.zero.result _ c.zero.ensures.0
+    (reduce_from_yields_List larger _ _ c.max.ensures.ran (YieldsList-from_copied (YieldsList-from_slice c.args.loads.now cc)))
+    c.unwrap_or.ensures

@@ -1,11 +1,21 @@
-use Rattle.std.proofs.Common.{◌+◌, sym, ◌∙◌, arith}
-use Rattle.sheet.proofs.Firsts.{bits_none, bits_first}
+use Rattle.std.proofs.Common.{◌+◌, ◌-◌, ◌<◌, arith}
+use Rattle.sheet.proofs.Firsts.{row_none, row_first}
+use Rattle.sheet.proofs.Chunks.{slice_long}
 use Rattle.sheet.proofs.bytes.first_bit.Goals as goal
 
-pub returns-then-byte-ne0 : goal.returns-then-byte-ne0
-returns-then-byte-ne0 c =
-    c.min.ensures
-    ∙ bits_first _ _ c.args.n c.loop-k.k c.loop-k.invariant (omega (arith, c.type_inv.b (c.args.p + c.loop-k.k))) (omega arith)
+pub returns-in_err-k : goal.returns-in_err-k
+returns-in_err-k c =
+    let none = row_none c.args.b.now c.args.p c.args.n (c.args.p + c.row_bytes.result - c.args.p) (omega arith) (omega arith) c.in_err-k.ensures in
+    rw c.from_residual.ensures none
 
-pub returns : goal.returns
-returns c = sym (bits_none _ _ _ (λ i l. c.loop-k.invariant i (omega arith)))
+pub returns-then-i-n : goal.returns-then-i-n
+returns-then-i-n c =
+    let len = c.args.p + c.row_bytes.result - c.args.p in
+    let inside : c.in_ok-k.k < len = omega (arith, c.in_ok-k.ensures.0, slice_long c.args.b.now c.args.p len (omega arith)) in
+    (c.if-i-n.true, omega (arith, c.if-i-n.true, row_first c.args.b.now c.args.p c.args.n len c.in_ok-k.k inside c.in_ok-k.ensures.2 (omega arith) c.in_ok-k.ensures.1))
+
+pub returns-else-i-n : goal.returns-else-i-n
+returns-else-i-n c =
+    let len = c.args.p + c.row_bytes.result - c.args.p in
+    let inside : c.in_ok-k.k < len = omega (arith, c.in_ok-k.ensures.0, slice_long c.args.b.now c.args.p len (omega arith)) in
+    omega (arith, c.if-i-n.false, row_first c.args.b.now c.args.p c.args.n len c.in_ok-k.k inside c.in_ok-k.ensures.2 (omega arith) c.in_ok-k.ensures.1)

@@ -16,15 +16,15 @@ loop-k-init c = (refl, omega arith, omega (arith, ap (λ m. c.args.by * m) value
 pub overflow_cast-out-in-loop-k : goal.overflow_cast-out-in-loop-k
 overflow_cast-out-in-loop-k c =
     omega
-    (arith, div_below (c.loop-k.rest * 18446744073709551616 + get_or c.args.what.now (7 - c.loop-k.k) 0) c.args.by 18446744073709551616 (omega arith) (omega arith))
+    (arith, div_below (c.loop-k.rest * 18446744073709551616 + get_or c.args.what.now (c.loop-k.k - 1) 0) c.args.by 18446744073709551616 (omega arith) (omega arith))
 
 pub loop-k-preserved : goal.loop-k-preserved
 loop-k-preserved c =
-    (simp length-set (omega arith), mod-lt _ (omega arith), divide_step _ _ _ _ _ _ _ (omega arith) (omega arith) c.loop-k.invariant.2 c.loop-k.invariant.3 (div-add-mod' _ _), λ i l. get_or-set_other _ (7 - c.loop-k.k) i _ 0 (omega arith) ∙ c.loop-k.invariant.3 i (omega arith))
+    (simp length-set (omega arith), mod-lt _ (omega arith), divide_step _ _ _ _ _ _ _ (omega arith) (omega arith) (omega arith) c.loop-k.invariant.2 c.loop-k.invariant.3 (div-add-mod' _ _), λ i l. get_or-set_other _ (c.loop-k.k - 1) i _ 0 (omega arith) ∙ c.loop-k.invariant.3 i (omega arith))
 
 pub returns : goal.returns
 returns c =
-    let e : 8 - c.loop-k.k ≡ 0 = omega arith in
+    let e : c.loop-k.k ≡ 0 = omega arith in
     divide_all _ c.loop-k.rest _ _ (omega arith)
     (omega
     (arith, c.loop-k.invariant.2, ap (λ n. upto n c.args.what.now) e, upto_none c.args.what.now, ap (λ n. c.loop-k.rest * base n) e, ap (λ b. c.loop-k.rest * b) base_none))

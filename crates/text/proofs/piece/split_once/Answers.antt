@@ -1,11 +1,10 @@
-use Rattle.std.proofs.Common.{arith}
-use Rattle.text.proofs.Pieces.{whole, parted}
+use Rattle.std.proofs.Common.{◌+◌, add-one, rules}
+use Rattle.std.proofs.lemmas.List.{take_rest}
+use Rattle.text.proofs.Pieces.{never, parted}
 use Rattle.text.proofs.piece.split_once.Goals as goal
 
-pub returns-then-n-bytes : goal.returns-then-n-bytes
-returns-then-n-bytes c = whole _ _ (λ k l. c.before-n.ensures.plain k (omega arith))
+pub returns-in_err-i : goal.returns-in_err-i
+returns-in_err-i c = search (rules, never)
 
 pub returns : goal.returns
-returns c =
-    parted _ _ c.before-n.result (omega arith) c.before-n.ensures.plain
-    (c.before-n.ensures.stops (omega arith))
+returns c = rw (take_rest c.args.bytes.now (c.in_ok-i.i + 1), add-one) (parted _ _ _ (search rules))

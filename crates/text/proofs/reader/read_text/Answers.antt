@@ -1,14 +1,12 @@
-use Rattle.text.proofs.Blaming.{blames_unfit, blames_lines}
-use Rattle.text.proofs.Clean.{read_night}
+use Rattle.std.proofs.lemmas.Option.{MatchOption-at_some}
+use Rattle.text.proofs.Clean.{read_night, says_night, surely_made}
 use Rattle.text.proofs.reader.read_text.Goals as goal
 
-pub returns-in-Some : goal.returns-in-Some
-returns-in-Some c = blames_unfit _ _ _ c.in-Some.ensures
+pub unwrap-night-requires : goal.unwrap-night-requires
+unwrap-night-requires c =
+    surely_made _ _ c.new.ensures (read_night _ _ _ c.in_ok-hours.ensures c.in_ok-accept.ensures c.unwrap.ensures)
 
-pub finish-requires : goal.finish-requires
-finish-requires c = read_night _ _ c.in-Ok.ensures
-
-pub returns-in-Err : goal.returns-in-Err
-returns-in-Err c =
-    blames_lines c.args.text.now _ _ _ c.in_default.ensures c.in-Ok.ensures.wrong
-    c.in-Err.ensures.0 c.in-Err.ensures.1
+pub returns : goal.returns
+returns c =
+    let night = MatchOption-at_some _ _ _ c.unwrap-night.ensures c.new.ensures in
+    says_night _ _ _ _ c.in_ok-reject.ensures c.in_ok-hours.ensures c.in_ok-accept.ensures c.unwrap.ensures night.0 night.1

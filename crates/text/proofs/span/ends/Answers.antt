@@ -1,7 +1,8 @@
-use Rattle.text.proofs.Spans.{two_ends}
+use Rattle.std.proofs.Common.{rules}
+use Rattle.text.proofs.Spans.{halves}
 use Rattle.text.proofs.span.ends.Goals as goal
 
-pub returns-in-Some : goal.returns-in-Some
-returns-in-Some c =
-    λ n. simp (c.number.ensures, c.number-in-Some.ensures)
-    (two_ends n c.args.word.now c.in-Some.from.now c.in-Some.to.now c.in-Some.ensures.more)
+pub returns : goal.returns
+returns c = λ n.
+    simp (c.number.ensures, c.number-2.ensures)
+    (halves n c.args.word c.split_once.result c.unwrap_or.result c.split_once.ensures (search rules))

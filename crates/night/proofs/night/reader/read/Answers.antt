@@ -1,8 +1,14 @@
-use Rattle.night.proofs.Faults.{first_past}
+use Rattle.std.proofs.Common.{◌≡◌}
+use Rattle.night.proofs.Reading.{read_says, read_sound}
 use Rattle.night.proofs.night.reader.read.Goals as goal
 
-pub returns-then-bytes-end : goal.returns-then-bytes-end
-returns-then-bytes-end c =
-    first_past c.args.bytes.now c.in_ok-hours.hours c.in_ok-hours.count
-    c.task_place-end.result c.in_ok-hours.ensures c.in_ok-check_tasks.ensures
-    c.task_place-end.ensures c.if-bytes-end.true
+pub invariant_of-result : goal.invariant_of-result
+invariant_of-result c =
+    let s = read_sound _ _ _ _ c.in_ok-headed.headed.headed c.in_ok-tasks.ensures c.in_ok-check.ensures in
+    record { some = s.some; short = s.short; few = s.few; each = s.each }
+
+pub returns : goal.returns
+returns c =
+    let same : c.in_ok-headed.headed.bytes.now ≡ c.args.bytes.now = c.in_ok-headed.ensures in
+    rw (← same)
+    (c.in_ok-check.ensures, read_says _ _ _ _ c.in_ok-headed.headed.headed c.in_ok-tasks.ensures)

@@ -1,0 +1,57 @@
+// What every program does around its own work: it reads its words, prints its help or its version, and says what went wrong.
+ghost use Rattle.std.specs.Prelude.{◌≡◌, ◌⊎◌};
+
+use crate::fault::{Fault, report, status};
+use crate::words::{Words, given};
+use std::process::ExitCode;
+
+// What is known of a program before it runs.
+#[derive(Clone, Copy)]
+pub struct About {
+    pub name: &'static str,
+    pub version: &'static str,
+    pub help: &'static str,
+    // the switches that it knows, `--help` and `--version` among them where it has them
+    pub switches: &'static [&'static str],
+    // the options with a value that it knows
+    pub options: &'static [&'static str],
+}
+
+// Prints the help or the version where it is asked for; else runs the program's own work on its words.
+fn answer<F: FnOnce(&Words) -> Result<(), Fault>>(
+    rt: &HostRuntime,
+    about: About,
+    work: F,
+) -> Result<(), Fault>
+    requires { F.IsAlwaysCallable work }
+{
+    let words = given(rt, about.switches, about.options)?;
+    let About {
+        name,
+        version,
+        help,
+        ..
+    } = about;
+    if words.has("--help") {
+        println!(rt; "{help}")?;
+        return Ok(());
+    }
+    if words.has("--version") {
+        println!(rt; "{name} {version}")?;
+        return Ok(());
+    }
+    work(&words)
+}
+
+// Runs a program, and answers its status.
+pub fn program<F: FnOnce(&Words) -> Result<(), Fault>>(
+    rt: &HostRuntime,
+    about: About,
+    work: F,
+) -> ExitCode
+    requires { F.IsAlwaysCallable work }
+    ensures { (result ≡ ExitCode.SUCCESS) ⊎ (result ≡ ExitCode.FAILURE) }
+{
+    let end = answer(rt, about, work);
+    status(report(rt, about.name, end))
+}

@@ -1,8 +1,0 @@
-use Rattle.std.proofs.Common.{◌≡◌, length}
-use Rattle.flow.specs.Lent.{permits, Better}
-use Rattle.flow.proofs.drain.serve_all.Given as goal
-
-abbrev pub invariant-tasks : goal.invariant-tasks
-invariant-tasks l =
-    (length l.layers ≡ 97)
-    × Better (length l.may) (permits l.may) l.initial.net l.initial.work l.net l.work

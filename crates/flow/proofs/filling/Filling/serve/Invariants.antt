@@ -1,0 +1,6 @@
+use Rattle.std.proofs.Common.{◌≡◌, length}
+use Rattle.flow.specs.Filling.{Improves}
+use Rattle.flow.proofs.filling.Filling.serve.Given as goal
+
+abbrev pub invariant-loop : goal.invariant-loop
+invariant-loop l = (length l.layers ≡ 97) × Improves l.initial.self l.self

@@ -1,8 +1,0 @@
-use Rattle.std.proofs.Common.{◌≡◌, ℕ, ◌<◌, length, get_or}
-use Rattle.even.specs.DayOf.{day}
-use Rattle.sheet.specs.Sheet.{over}
-use Rattle.sheet.proofs.layout.overs.Given as goal
-
-abbrev pub invariant-loop-j : goal.invariant-loop-j
-invariant-loop-j l =
-    (length l.out ≡ 200) × ((k : ℕ) → k < l.j → get_or l.out k 0 ≡ over (day l.hours l.tasks) l.sheet k)

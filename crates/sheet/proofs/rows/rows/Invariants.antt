@@ -1,7 +1,0 @@
-use Rattle.std.proofs.Common.{ℕ, ◌<◌}
-use Rattle.even.specs.DayOf.{day}
-use Rattle.sheet.specs.Verdict.{Adds}
-use Rattle.sheet.proofs.rows.rows.Given as goal
-
-abbrev pub invariant-loop-j : goal.invariant-loop-j
-invariant-loop-j l = (j : ℕ) → j < l.j → Adds (day l.hours l.tasks) l.sheet j
