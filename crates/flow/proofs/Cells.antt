@@ -79,44 +79,39 @@ marks_write m marks marks' work j s v ls lk w from pos =
           | inr o ↦ omega (arith, w.some i t li o, write_other marks work j s v ls i t (w.low i t li o) ne)
         ]
 
--- the marks of row j with hour s, and without it
+-- the marks of row j with hour s, and without it: the set changes in hour s alone
 module _ (marks : List Hours) (j s : ℕ) (x : Hours) (lj : j < length marks) (ls : s < 96) where
+  abbrev Alone : Type 0
+  Alone = (k : ℕ) → (k ≡ s → ⊥) → has x k ≡ has (get_or marks j blank) k
+
   module _ (e : (k : ℕ) → has x k ≡ (has (get_or marks j blank) k || (eqb k s && ltb k 128))) where
     pub insert_at : has (get_or (set marks j x) j blank) s ≡ true
     insert_at = mark_at marks j x lj s ∙ (let h = e s in grind (arith, nat_tests))
 
-    pub insert_other : (i t : ℕ) → (i ≡ j → t ≡ s → ⊥) → has (get_or (set marks j x) i blank) t ≡ has (get_or marks i blank) t
-    insert_other i t ne =
-        elim (cases_eq i j) [
-          | inl ei ↦ rw ei (mark_at marks j x lj t ∙ (let h = e t in let nt = ne ei in grind (arith, nat_tests)))
-          | inr ni ↦ mark_other marks j x i ni t
-        ]
-
-    pub insert_from :
-        (i t : ℕ) → has (get_or (set marks j x) i blank) t ≡ true → ((i ≡ j) × (t ≡ s)) ⊎ (has (get_or marks i blank) t ≡ true)
-    insert_from i t h =
-        elim (cases_eq i j) [
-          | inl ei ↦ elim (cases_eq t s) [ inl et ↦ inl (ei, et) | inr nt ↦ inr (sym (insert_other i t (λ a b. nt b)) ∙ h) ]
-          | inr ni ↦ inr (sym (insert_other i t (λ a b. ni a)) ∙ h)
-        ]
+    pub insert_alone : Alone
+    insert_alone k ne = let h = e k in grind (arith, nat_tests)
 
   module _ (e : (k : ℕ) → has x k ≡ (has (get_or marks j blank) k && not (eqb k s))) where
     pub remove_at : has (get_or (set marks j x) j blank) s ≡ false
     remove_at = mark_at marks j x lj s ∙ (let h = e s in grind (arith, nat_tests))
 
-    pub remove_other : (i t : ℕ) → (i ≡ j → t ≡ s → ⊥) → has (get_or (set marks j x) i blank) t ≡ has (get_or marks i blank) t
-    remove_other i t ne =
+    pub remove_alone : Alone
+    remove_alone k ne = let h = e k in grind (arith, nat_tests)
+
+  module _ (e : Alone) where
+    pub alone_other : (i t : ℕ) → (i ≡ j → t ≡ s → ⊥) → has (get_or (set marks j x) i blank) t ≡ has (get_or marks i blank) t
+    alone_other i t ne =
         elim (cases_eq i j) [
-          | inl ei ↦ rw ei (mark_at marks j x lj t ∙ (let h = e t in let nt = ne ei in grind (arith, nat_tests)))
+          | inl ei ↦ rw ei (mark_at marks j x lj t ∙ e t (ne ei))
           | inr ni ↦ mark_other marks j x i ni t
         ]
 
-    pub remove_from :
+    pub alone_from :
         (i t : ℕ) → has (get_or (set marks j x) i blank) t ≡ true → ((i ≡ j) × (t ≡ s)) ⊎ (has (get_or marks i blank) t ≡ true)
-    remove_from i t h =
+    alone_from i t h =
         elim (cases_eq i j) [
-          | inl ei ↦ elim (cases_eq t s) [ inl et ↦ inl (ei, et) | inr nt ↦ inr (sym (remove_other i t (λ a b. nt b)) ∙ h) ]
-          | inr ni ↦ inr (sym (remove_other i t (λ a b. ni a)) ∙ h)
+          | inl ei ↦ elim (cases_eq t s) [ inl et ↦ inl (ei, et) | inr nt ↦ inr (sym (alone_other i t (λ a b. nt b)) ∙ h) ]
+          | inr ni ↦ inr (sym (alone_other i t (λ a b. ni a)) ∙ h)
         ]
 
 -- the room in hour s changes

@@ -1,6 +1,6 @@
 use Rattle.std.proofs.Common.{◌≡◌, ◌+◌, ◌-◌, ◌*◌, ◌<◌, true, false, length, get_or, set, sym, refl, inr, arith, get_or-set_other, get_or-set_same}
 use Rattle.sets.specs.Hours.{has, blank}
-use Rattle.flow.proofs.Cells.{cell_marked, cell_bare, cell_same, write_other, marks_write, insert_at, insert_other, insert_from, room_at, room_other}
+use Rattle.flow.proofs.Cells.{cell_marked, cell_bare, cell_same, write_other, marks_write, insert_at, insert_alone, alone_other, alone_from, room_at, room_other}
 use Rattle.flow.proofs.cell.put.Goals as goal
 
 pub overflow_add-work : goal.overflow_add-work
@@ -45,6 +45,7 @@ returns-else-contains c =
     let x = c.insert.result in
     let marks' = set marks j x in
     let lj : j < length marks = omega arith in
+    let alone = insert_alone marks j s x lj c.requires.hours c.insert.ensures in
     let h : has (get_or marks j blank) s ≡ false = sym c.if-contains.ensures in
     let old = cell_bare marks work j s h in
     let new = cell_marked marks' (set work (j * 96 + s) v) j s (insert_at marks j s x lj c.requires.hours c.insert.ensures) in
@@ -53,7 +54,7 @@ returns-else-contains c =
       grew =
           record {
             at = omega (arith, old, new, same);
-            cells = λ i t lt ne. cell_same marks marks' work (set work (j * 96 + s) v) i t (insert_other marks j s x lj c.requires.hours c.insert.ensures i t ne) (write_other marks work j s v c.requires.hours i t lt ne);
+            cells = λ i t lt ne. cell_same marks marks' work (set work (j * 96 + s) v) i t (alone_other marks j s x lj c.requires.hours alone i t ne) (write_other marks work j s v c.requires.hours i t lt ne);
             there = omega (arith, room_at rooms s (get_or rooms s 0 - c.args.d) lr);
             rooms = λ t ne. room_other rooms s _ t ne;
             rest = λ k ne. get_or-set_other work (j * 96 + s) k v 0 ne;
@@ -61,6 +62,6 @@ returns-else-contains c =
       lefts = refl;
       marks =
           λ m w. marks_write m marks marks' work j s v c.requires.hours c.requires.cells w
-          (insert_from marks j s x lj c.requires.hours c.insert.ensures)
+          (alone_from marks j s x lj c.requires.hours alone)
           (λ on. c.requires.some);
     }

@@ -1,7 +1,7 @@
 use Rattle.std.proofs.Common.{◌≡◌, ◌+◌, ◌-◌, ◌*◌, ◌<◌, true, length, get_or, set, sym, refl, inr, arith, get_or-set_other, get_or-set_same}
 use Rattle.sets.specs.Hours.{has, blank}
 use Rattle.std.proofs.lemmas.Bool.{both_ways}
-use Rattle.flow.proofs.Cells.{cell_marked, cell_bare, cell_some, cell_same, write_other, marks_write, remove_at, remove_other, remove_from, room_at, room_other}
+use Rattle.flow.proofs.Cells.{cell_marked, cell_bare, cell_some, cell_same, write_other, marks_write, remove_at, remove_alone, alone_other, alone_from, room_at, room_other}
 use Rattle.flow.proofs.cell.take.Goals as goal
 
 pub overflow_sub-work : goal.overflow_sub-work
@@ -21,6 +21,7 @@ returns-then-work-k-eq0 c =
     let x = c.remove.result in
     let marks' = set marks j x in
     let lj : j < length marks = omega arith in
+    let alone = remove_alone marks j s x lj c.requires.hours c.remove.ensures in
     let h : has (get_or marks j blank) s ≡ true = cell_some marks work j s (omega arith) in
     let old = cell_marked marks work j s h in
     let off = remove_at marks j s x lj c.requires.hours c.remove.ensures in
@@ -30,7 +31,7 @@ returns-then-work-k-eq0 c =
       fell =
           record {
             at = omega (arith, old, new, same);
-            cells = λ i t lt ne. sym (cell_same marks marks' work (set work (j * 96 + s) v) i t (remove_other marks j s x lj c.requires.hours c.remove.ensures i t ne) (write_other marks work j s v c.requires.hours i t lt ne));
+            cells = λ i t lt ne. sym (cell_same marks marks' work (set work (j * 96 + s) v) i t (alone_other marks j s x lj c.requires.hours alone i t ne) (write_other marks work j s v c.requires.hours i t lt ne));
             there = omega (arith, room_at rooms s (get_or rooms s 0 + c.args.d) lr);
             rooms = λ t ne. sym (room_other rooms s _ t ne);
             rest = λ k ne. sym (get_or-set_other work (j * 96 + s) k v 0 ne);
@@ -38,7 +39,7 @@ returns-then-work-k-eq0 c =
       lefts = refl;
       marks =
           λ m w. marks_write m marks marks' work j s v c.requires.hours c.requires.cells w
-          (remove_from marks j s x lj c.requires.hours c.remove.ensures)
+          (alone_from marks j s x lj c.requires.hours alone)
           (λ on. absurd (both_ways _ off on));
     }
 
