@@ -87,7 +87,7 @@ pub fn sheet_len(night: &Night, groups: u8) -> usize
 // What a sheet of a night says of a plan: the loads by hours, the hours of so many groups, the group of each task, and the amounts, in which
 // a task's row takes 96 places. A sheet has a place for all of them.
 #[derive(Clone, Copy)]
-struct Drawn<'a> {
+struct Content<'a> {
     night: &'a Night,
     loads: &'a [Fraction; 96],
     groups: &'a [Hours; 96],
@@ -100,7 +100,7 @@ struct Drawn<'a> {
     ghost rows: { length (tasks_of night.now) * 96 ≤ length plan.now },
 }
 
-impl Drawn<'_> {
+impl Content<'_> {
     // How long its sheet is.
     fn len(&self) -> usize
         ensures { result ≡ span (day_of self.now.night.now) self.now.found }
@@ -190,7 +190,7 @@ pub fn write(
     if plan.len() < night.tasks().len() * 96 {
         return Err(Unwritten::ShortPlan);
     }
-    let drawn = Drawn {
+    let content = Content {
         night,
         loads,
         groups,
@@ -198,10 +198,10 @@ pub fn write(
         of,
         plan,
     };
-    let len = drawn.len();
+    let len = content.len();
     if sheet.len() < len {
         return Err(Unwritten::ShortSheet);
     }
-    drawn.put(sheet);
+    content.put(sheet);
     Ok(len)
 }

@@ -2,7 +2,7 @@ use Rattle.std.proofs.Common.{◌+◌, ◌*◌}
 use Rattle.night.specs.Format.{width}
 use Rattle.night.specs.Night.{hours_of}
 use Rattle.sheet_writer.specs.Written.{GroupsPut, Kept}
-use Rattle.sheet_writer.proofs.writer.Drawn.put_groups.Given as goal
+use Rattle.sheet_writer.proofs.writer.Content.put_groups.Given as goal
 
 abbrev pub invariant-loop-g : goal.invariant-loop-g
 invariant-loop-g l =

@@ -3,7 +3,7 @@ use Rattle.std.proofs.lemmas.List.{get_or_default}
 use Rattle.fraction.specs.declared.exact.Fraction.{Fraction}
 use Rattle.sheet_writer.proofs.Puts.{kept_join}
 use Rattle.sheet_writer.proofs.Writes.{loads_more}
-use Rattle.sheet_writer.proofs.writer.Drawn.put_loads.Goals as goal
+use Rattle.sheet_writer.proofs.writer.Content.put_loads.Goals as goal
 
 pub loop-s-preserved : goal.loop-s-preserved
 loop-s-preserved c =

@@ -4,7 +4,7 @@ use Rattle.even.specs.DayOf.{day_of}
 use Rattle.night.specs.Night.{hours_of, tasks_of}
 use Rattle.sheet.specs.Sheet.{row}
 use Rattle.sheet_writer.specs.Written.{Kept, TasksPut}
-use Rattle.sheet_writer.proofs.writer.Drawn.put_tasks.Given as goal
+use Rattle.sheet_writer.proofs.writer.Content.put_tasks.Given as goal
 
 abbrev pub invariant-loop-j : goal.invariant-loop-j
 invariant-loop-j l =

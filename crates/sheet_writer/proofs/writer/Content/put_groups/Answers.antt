@@ -7,7 +7,7 @@ use Rattle.night.specs.Night.{hours_of}
 use Rattle.sheet_writer.specs.Written.{Kept}
 use Rattle.sheet_writer.proofs.Puts.{kept_join}
 use Rattle.sheet_writer.proofs.Writes.{groups_more}
-use Rattle.sheet_writer.proofs.writer.Drawn.put_groups.Goals as goal
+use Rattle.sheet_writer.proofs.writer.Content.put_groups.Goals as goal
 
 pub loop-g-preserved : goal.loop-g-preserved
 loop-g-preserved c =

@@ -8,7 +8,7 @@ use Rattle.sheet.specs.Sheet.{row}
 use Rattle.sheet_writer.specs.Written.{Kept}
 use Rattle.sheet_writer.proofs.Puts.{kept_none, kept_join}
 use Rattle.sheet_writer.proofs.Writes.{tasks_more}
-use Rattle.sheet_writer.proofs.writer.Drawn.put_tasks.Goals as goal
+use Rattle.sheet_writer.proofs.writer.Content.put_tasks.Goals as goal
 
 pub loop-j-init : goal.loop-j-init
 loop-j-init c =
