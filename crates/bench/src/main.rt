@@ -3,7 +3,7 @@
 
 use console::nights::{Form, night_from};
 use console::words::Words;
-use console::{About, Fault, program};
+use console::{About, Fault, Work, program};
 use level::{length_needed, plan_night};
 use night::night::Night;
 use sheet_writer::planned::{plan_sheet, sheet_room};
@@ -46,37 +46,45 @@ impl Lane {
             sheet,
         })
     }
+}
 
-    // Plans the night.
-    fn plan(&mut self) {
-        let _ = plan_night(&self.night, &mut self.plan, &mut self.work);
+// A call that is timed.
+trait Timed {
+    fn call(lane: &mut Lane);
+}
+
+// Planning the night.
+struct Planning;
+
+impl Timed for Planning {
+    fn call(lane: &mut Lane) {
+        let _ = plan_night(&lane.night, &mut lane.plan, &mut lane.work);
     }
+}
 
-    // Checks its sheet.
-    fn check(&mut self) {
-        let _ = sheet::check(&self.night, self.sheet.as_slice());
+// Checking its sheet.
+struct Checking;
+
+impl Timed for Checking {
+    fn call(lane: &mut Lane) {
+        let _ = sheet::check(&lane.night, lane.sheet.as_slice());
     }
 }
 
 // The time of a call, in nanoseconds, from a row of them.
-fn sample<F: FnMut()>(rt: &HostRuntime, call: &mut F) -> Result<u128, Fault>
-    requires { F.IsAlwaysCallable call.old }
-    ensures { F.IsAlwaysCallable call.new }
-{
+fn sample<C: Timed>(rt: &HostRuntime, lane: &mut Lane) -> Result<u128, Fault> {
     let start = Instant::now(rt)?;
     for _ in 0..CALLS {
-        call();
+        C::call(lane);
     }
     Ok(start.elapsed(rt)?.as_nanos() / CALLS as u128)
 }
 
 // The median time of a call, in nanoseconds.
-fn time<F: FnMut()>(rt: &HostRuntime, mut call: F) -> Result<u128, Fault>
-    requires { F.IsAlwaysCallable call }
-{
+fn time<C: Timed>(rt: &HostRuntime, lane: &mut Lane) -> Result<u128, Fault> {
     let mut all = Vec::new(rt.alloc());
     for _ in 0..SAMPLES {
-        all.push(sample(rt, &mut call)?)?;
+        all.push(sample::<C>(rt, lane)?)?;
     }
     all.sort()?;
     Ok(all.get(all.len() / 2).copied().unwrap_or(0))
@@ -98,8 +106,8 @@ fn race(rt: &HostRuntime, name: &str) -> Result<(), Fault> {
     println!(rt;
         "{name} hours {hours} tasks {tasks} groups {groups} flows {flows} highest {highest}"
     )?;
-    let planning = time(rt, || lane.plan())?;
-    let checking = time(rt, || lane.check())?;
+    let planning = time::<Planning>(rt, &mut lane)?;
+    let checking = time::<Checking>(rt, &mut lane)?;
     eprintln!(rt; "{name} plan {planning} check {checking}")?;
     Ok(())
 }
@@ -112,13 +120,19 @@ const ABOUT: About = About {
     options: &[],
 };
 
-fn run(rt: &HostRuntime, words: &Words) -> Result<(), Fault> {
-    for name in words.all() {
-        race(rt, name.as_str())?;
+#[derive(Drop)]
+struct Racer;
+
+impl Work for Racer {
+    // Races each night that the words name.
+    fn run(self, rt: &HostRuntime, words: &Words) -> Result<(), Fault> {
+        for name in words.all() {
+            race(rt, name.as_str())?;
+        }
+        Ok(())
     }
-    Ok(())
 }
 
 fn main(rt: HostRuntime) -> ExitCode {
-    program(&rt, ABOUT, |words| run(&rt, words))
+    program(&rt, ABOUT, Racer)
 }

@@ -1,3 +1,4 @@
 pub mod Growth
+pub mod Soundness
 pub mod Applied
 pub mod Evenings

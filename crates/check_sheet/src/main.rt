@@ -3,7 +3,7 @@
 
 use console::nights::{Form, night_from};
 use console::words::Words;
-use console::{About, Fault, program, read_input, refuse, usage};
+use console::{About, Fault, Work, program, read_input, tell, usage};
 use lines::UnevenLine;
 use sheet::refusal::Refusal;
 use std::process::ExitCode;
@@ -34,7 +34,7 @@ fn verdict(rt: &HostRuntime, r: Result<(), Refusal>) -> Result<(), Fault> {
             println!(rt; "{line}")?;
             Err(Fault::Refused)
         }
-        Err(e) => Err(refuse(rt, e)?),
+        Err(e) => Err(tell(rt, e)?),
     }
 }
 
@@ -46,15 +46,21 @@ const ABOUT: About = About {
     options: &[],
 };
 
-fn run(rt: &HostRuntime, words: &Words) -> Result<(), Fault> {
-    let (Some(night), Some(sheet)) = (words.plain(0), words.plain(1)) else {
-        return Err(usage(rt, "wanted: check NIGHT SHEET")?);
-    };
-    let night = night_from(rt, night, Form::given(words))?;
-    let bytes = read_input(rt, sheet)?;
-    verdict(rt, sheet::check(&night, bytes.as_slice()))
+#[derive(Drop)]
+struct Checker;
+
+impl Work for Checker {
+    // Checks the sheet that the words name against their night.
+    fn run(self, rt: &HostRuntime, words: &Words) -> Result<(), Fault> {
+        let (Some(night), Some(sheet)) = (words.plain(0), words.plain(1)) else {
+            return Err(usage(rt, "wanted: check NIGHT SHEET")?);
+        };
+        let night = night_from(rt, night, Form::given(words))?;
+        let bytes = read_input(rt, sheet)?;
+        verdict(rt, sheet::check(&night, bytes.as_slice()))
+    }
 }
 
 fn main(rt: HostRuntime) -> ExitCode {
-    program(&rt, ABOUT, |words| run(&rt, words))
+    program(&rt, ABOUT, Checker)
 }

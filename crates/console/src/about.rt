@@ -17,14 +17,14 @@ pub struct About {
     pub options: &'static [&'static str],
 }
 
+// A program's own work. A trait, and not a closure: a call of one asks that it may be called, and `program` asks nothing.
+pub trait Work: Drop {
+    // Does what the words ask for.
+    fn run(self, rt: &HostRuntime, words: &Words) -> Result<(), Fault>;
+}
+
 // Prints the help or the version where it is asked for; else runs the program's own work on its words.
-fn answer<F: FnOnce(&Words) -> Result<(), Fault>>(
-    rt: &HostRuntime,
-    about: About,
-    work: F,
-) -> Result<(), Fault>
-    requires { F.IsAlwaysCallable work }
-{
+fn answer<W: Work>(rt: &HostRuntime, about: About, work: W) -> Result<(), Fault> {
     let words = given(rt, about.switches, about.options)?;
     let About {
         name,
@@ -40,16 +40,11 @@ fn answer<F: FnOnce(&Words) -> Result<(), Fault>>(
         println!(rt; "{name} {version}")?;
         return Ok(());
     }
-    work(&words)
+    work.run(rt, &words)
 }
 
 // Runs a program, and answers its status.
-pub fn program<F: FnOnce(&Words) -> Result<(), Fault>>(
-    rt: &HostRuntime,
-    about: About,
-    work: F,
-) -> ExitCode
-    requires { F.IsAlwaysCallable work }
+pub fn program<W: Work>(rt: &HostRuntime, about: About, work: W) -> ExitCode
     ensures { (result ≡ ExitCode.SUCCESS) ⊎ (result ≡ ExitCode.FAILURE) }
 {
     let end = answer(rt, about, work);

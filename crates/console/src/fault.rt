@@ -94,11 +94,19 @@ pub fn usage(rt: &HostRuntime, what: &str) -> Result<Fault, AllocError> {
     Ok(Fault::Usage(String::from_str(rt.alloc(), what)?))
 }
 
-// Prints a refusal, and says that it was printed.
-pub fn refuse<R: Numbered>(rt: &HostRuntime, refusal: R) -> Result<Fault, Fault> {
-    let line = RefusedLine::of(refusal);
+// Prints a refusal by its number and place, and says that it was printed.
+pub fn refuse(rt: &HostRuntime, number: usize, place: usize) -> Result<Fault, io::Error> {
+    let line = RefusedLine {
+        number: number as u64,
+        place: place as u64,
+    };
     println!(rt; "{line}")?;
     Ok(Fault::Refused)
+}
+
+// The same of a refusal that knows its number and place.
+pub fn tell<R: Numbered>(rt: &HostRuntime, refusal: R) -> Result<Fault, Fault> {
+    Ok(refuse(rt, refusal.number(), refusal.place())?)
 }
 
 // Says on standard error what went wrong, but for a refusal, which the program has printed already.

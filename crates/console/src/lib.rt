@@ -7,6 +7,6 @@ mod files;
 pub mod nights;
 pub mod words;
 
-pub use about::{About, program};
-pub use fault::{Fault, refuse, report, status, usage};
+pub use about::{About, Work, program};
+pub use fault::{Fault, refuse, report, status, tell, usage};
 pub use files::{read_input, write_output};

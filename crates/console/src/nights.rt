@@ -2,7 +2,7 @@
 ghost use Rattle.console.specs.Form.{AsksFor};
 
 use super::words::Words;
-use super::{Fault, read_input, refuse};
+use super::{Fault, read_input, tell};
 use change::kinds::Change;
 use night::night::Night;
 use std::alloc::AllocError;
@@ -49,7 +49,7 @@ pub fn named_night_from(rt: &HostRuntime, name: &str, form: Form) -> Result<Text
     let bytes = read_input(rt, name)?;
     match form {
         Form::Bytes => {
-            let night = night::read(heap, bytes.as_slice()).try_map_err(|e| refuse(rt, e))?;
+            let night = night::read(heap, bytes.as_slice()).try_map_err(|e| tell(rt, e))?;
             Ok(TextNight {
                 night,
                 names: Vec::new(heap),

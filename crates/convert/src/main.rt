@@ -3,7 +3,7 @@
 
 use console::nights::{Form, named_night_from};
 use console::words::Words;
-use console::{About, Fault, program, read_input, usage, write_output};
+use console::{About, Fault, Work, program, read_input, usage, write_output};
 use lines::RefusedLine;
 use std::process::ExitCode;
 use text::writer::write_text;
@@ -45,17 +45,23 @@ const ABOUT: About = About {
     options: &[],
 };
 
-fn run(rt: &HostRuntime, words: &Words) -> Result<(), Fault> {
-    let (Some(from), Some(to), None) = (words.plain(0), words.plain(1), words.plain(2)) else {
-        return Err(usage(rt, "wanted: two files")?);
-    };
-    match (words.has("--to-bytes"), words.has("--to-text")) {
-        (true, false) => write_output(rt, to, bytes_of(rt, from)?.as_slice()),
-        (false, true) => write_output(rt, to, text_of(rt, from)?.as_bytes()),
-        _ => Err(usage(rt, "wanted: --to-bytes or --to-text")?),
+#[derive(Drop)]
+struct Converter;
+
+impl Work for Converter {
+    // Turns the file that the words name into another, by their direction.
+    fn run(self, rt: &HostRuntime, words: &Words) -> Result<(), Fault> {
+        let (Some(from), Some(to), None) = (words.plain(0), words.plain(1), words.plain(2)) else {
+            return Err(usage(rt, "wanted: two files")?);
+        };
+        match (words.has("--to-bytes"), words.has("--to-text")) {
+            (true, false) => write_output(rt, to, bytes_of(rt, from)?.as_slice()),
+            (false, true) => write_output(rt, to, text_of(rt, from)?.as_bytes()),
+            _ => Err(usage(rt, "wanted: --to-bytes or --to-text")?),
+        }
     }
 }
 
 fn main(rt: HostRuntime) -> ExitCode {
-    program(&rt, ABOUT, |words| run(&rt, words))
+    program(&rt, ABOUT, Converter)
 }

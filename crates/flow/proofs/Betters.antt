@@ -1,11 +1,25 @@
 -- Steps of a fill, one after another.
-use Rattle.std.proofs.Common.{◌≡◌, ℕ, ◌<◌, ◌≤◌, length, get_or, ap, ◌∙◌, arith}
+use Rattle.std.proofs.Common.{◌≡◌, ℕ, ◌<◌, ◌≤◌, Bool, true, List, length, get_or, ap, ◌∙◌, arith}
 use Rattle.fraction.specs.Sum.{sum}
 use Rattle.flow.specs.declared.filling.Filling.{Filling}
 use Rattle.flow.specs.Filling.{waiting, Same, Ships, Shifts, Keeps, Improves}
-use Rattle.flow.specs.Lent.{left}
+use Rattle.flow.specs.declared.net.Net.{Net}
+use Rattle.flow.specs.Lent.{left, Marks, Shifted, Sound, Better}
 use Rattle.flow.proofs.Ends.{shipped_less}
-use Rattle.flow.proofs.Steps.{shipped_steady, shifted_steady, steady_then}
+use Rattle.flow.proofs.Steps.{shipped_steady, shifted_sound, shifted_steady, steady_then}
+
+-- a move leaves a sound state better, whatever it is of
+module _ {m : ℕ} {may : ℕ → ℕ → Bool} {net : Net} {work : List ℕ} (w : Sound m may net work) {net' : Net} {work' : List ℕ} {j d : ℕ}
+    (lj : j < m) (marks : Marks m net.marks work → Marks m net'.marks work') where
+  pub better_shifted :
+      {t u : ℕ} → t < 96 → u < 96 → may j u ≡ true → Shifted net work net' work' j t u d → Better m may net work net' work'
+  better_shifted lt lu can g =
+      let same : sum m (left net') ≡ sum m (left net) = ap (λ x. sum m (λ i. get_or x i 0)) g.lefts in
+      record {
+        sound = shifted_sound m lj lt lu g may can w marks;
+        steady = shifted_steady m lj lt lu g;
+        less = omega (arith, same);
+      }
 
 same_then : {a b c : Filling} → Same a b → Same b c → Same a c
 same_then p q =

@@ -119,3 +119,21 @@ module _
         columns = λ s ls. omega (arith, grew_balance lt g.fell m lj s ls, grew_balance lu g.grew m lj s ls);
         rest = λ k lk. omega (arith, grew_rest lt g.fell m lj k lk, grew_rest lu g.grew m lj k lk);
       }
+
+  pub shifted_sound :
+      (may : ℕ → ℕ → Bool) → may j u ≡ true → Sound m may net work → (Marks m net.marks work → Marks m net'.marks work') → Sound m may net' work'
+  shifted_sound may can w marks =
+      record {
+        only = λ i s li ls h.
+            (let b = g.grew.cells i s ls (λ a b. both_ways _ (rw (a, b) at h) can) in
+            let o = w.only i s li ls h in
+            elim (cases_eq i j) [
+              | inl ei ↦ elim (cases_eq s t) [
+                | inl es ↦ (let a = g.fell.at in let b' = rw (ei, es) at b in let o' = rw (ei, es) at o in rw (ei, es) (omega (arith, a, b', o')))
+                | inr ns ↦ omega (arith, b, o, g.fell.cells i s ls (λ x y. ns y))
+              ]
+              | inr ni ↦ omega (arith, b, o, g.fell.cells i s ls (λ x y. ni x))
+            ]);
+        marks = marks w.marks;
+        fits = λ s ls. omega (arith, w.fits s ls, shifted_steady.columns s ls);
+      }

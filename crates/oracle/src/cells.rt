@@ -1,6 +1,13 @@
 // Rows of numbers, and amounts in rows of 96 hours for each task.
-ghost use Rattle.std.specs.Prelude.{◌≡◌, ℕ, ◌+◌, ◌-◌, ◌^◌, ◌<◌, min, length, ◌≢◌, slice_index, slice_get};
+ghost use Rattle.std.specs.Prelude.{◌≡◌, ℕ, ◌+◌, ◌-◌, ◌*◌, ◌^◌, ◌<◌, min, length, ◌≢◌, slice_index, slice_get};
 ghost use Rattle.std.specs.Option.{UnwrapsOrElse};
+
+// Where a task's amount of an hour stands among the amounts of all tasks, one row behind another.
+pub fn cell(j: usize, s: usize) -> usize
+    ensures { j * 96 + s < 2 ^ 64 → result ≡ j * 96 + s }
+{
+    j.saturating_mul(96).saturating_add(s)
+}
 
 // What is done of a task in each hour.
 pub type Row = [u64; 96];

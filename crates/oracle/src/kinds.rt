@@ -4,7 +4,6 @@ use crate::draft::{Draft, Job};
 use crate::draw::Draw;
 use crate::edits::MOST_UNITS;
 use std::alloc::{AllocError, Global};
-use std::ops::RangeInclusive;
 
 // The hours in which a task may be done.
 #[derive(Clone, Copy)]
@@ -19,23 +18,21 @@ pub enum Shape {
     Same(u64),
 }
 
-// A night's hours, tasks and units lie in these ranges.
-#[derive(Drop)]
+// Both ends of a range of numbers, which are in it: the library's ranges are not Copy.
+type Ends = (u64, u64);
+
+// A night's hours, tasks and units lie within these ends.
+#[derive(Clone, Copy)]
 pub struct Kind {
-    pub hours: RangeInclusive<u64>,
-    pub tasks: RangeInclusive<u64>,
-    pub units: RangeInclusive<u64>,
+    pub hours: Ends,
+    pub tasks: Ends,
+    pub units: Ends,
     pub shape: Shape,
 }
 
 const MAX: u64 = MOST_UNITS as u64;
 
-fn of(
-    hours: RangeInclusive<u64>,
-    tasks: RangeInclusive<u64>,
-    units: RangeInclusive<u64>,
-    shape: Shape,
-) -> Kind {
+fn of(hours: Ends, tasks: Ends, units: Ends, shape: Shape) -> Kind {
     Kind {
         hours,
         tasks,
@@ -44,33 +41,33 @@ fn of(
     }
 }
 
-// The kind of night n: all kinds in turn. A function, since a constant can't hold a range.
+// The kind of night n: all kinds in turn.
 pub fn nth(n: u64) -> Kind {
     match n % 20 {
         // few tasks: small numbers, so that levels meet
-        0 => of(1..=4, 1..=4, 0..=4, Shape::Scattered(60)),
-        1 => of(2..=6, 2..=7, 0..=6, Shape::Scattered(40)),
-        2 => of(3..=9, 3..=9, 1..=12, Shape::Window(4)),
-        3 => of(4..=12, 3..=9, 1..=30, Shape::Pieces(3)),
-        4 => of(6..=24, 4..=10, 0..=99, Shape::Same(3)),
-        5 => of(2..=8, 2..=8, 0..=1, Shape::Window(3)),
+        0 => of((1, 4), (1, 4), (0, 4), Shape::Scattered(60)),
+        1 => of((2, 6), (2, 7), (0, 6), Shape::Scattered(40)),
+        2 => of((3, 9), (3, 9), (1, 12), Shape::Window(4)),
+        3 => of((4, 12), (3, 9), (1, 30), Shape::Pieces(3)),
+        4 => of((6, 24), (4, 10), (0, 99), Shape::Same(3)),
+        5 => of((2, 8), (2, 8), (0, 1), Shape::Window(3)),
         // few tasks: huge units, and levels that lie near one another
-        6 => of(20..=96, 3..=9, 0..=MAX, Shape::Window(40)),
-        7 => of(5..=96, 4..=9, MAX - 2..=MAX, Shape::Pieces(20)),
-        8 => of(3..=30, 4..=9, MAX..=MAX, Shape::Scattered(30)),
+        6 => of((20, 96), (3, 9), (0, MAX), Shape::Window(40)),
+        7 => of((5, 96), (4, 9), (MAX - 2, MAX), Shape::Pieces(20)),
+        8 => of((3, 30), (4, 9), (MAX, MAX), Shape::Scattered(30)),
         // the edges: one hour, no task, no units
-        9 => of(1..=1, 0..=9, 0..=MAX, Shape::Window(1)),
-        10 => of(1..=96, 0..=0, 0..=0, Shape::Window(1)),
-        11 => of(1..=20, 1..=8, 0..=0, Shape::Scattered(30)),
+        9 => of((1, 1), (0, 9), (0, MAX), Shape::Window(1)),
+        10 => of((1, 96), (0, 0), (0, 0), Shape::Window(1)),
+        11 => of((1, 20), (1, 8), (0, 0), Shape::Scattered(30)),
         // many tasks: dense, thin, windows, pieces, equal windows, many groups, near levels, 96 hours
-        12 => of(24..=48, 100..=200, 0..=MAX, Shape::Scattered(70)),
-        13 => of(24..=96, 50..=200, 0..=50, Shape::Scattered(4)),
-        14 => of(24..=96, 60..=200, 1..=200, Shape::Window(8)),
-        15 => of(24..=96, 60..=200, 1..=MAX, Shape::Pieces(6)),
-        16 => of(24..=96, 60..=200, 0..=9, Shape::Same(4)),
-        17 => of(60..=96, 60..=120, 0..=MAX, Shape::Window(2)),
-        18 => of(40..=96, 100..=200, MAX - 10..=MAX, Shape::Window(5)),
-        _ => of(96..=96, 200..=200, 0..=MAX, Shape::Window(96)),
+        12 => of((24, 48), (100, 200), (0, MAX), Shape::Scattered(70)),
+        13 => of((24, 96), (50, 200), (0, 50), Shape::Scattered(4)),
+        14 => of((24, 96), (60, 200), (1, 200), Shape::Window(8)),
+        15 => of((24, 96), (60, 200), (1, MAX), Shape::Pieces(6)),
+        16 => of((24, 96), (60, 200), (0, 9), Shape::Same(4)),
+        17 => of((60, 96), (60, 120), (0, MAX), Shape::Window(2)),
+        18 => of((40, 96), (100, 200), (MAX - 10, MAX), Shape::Window(5)),
+        _ => of((96, 96), (200, 200), (0, MAX), Shape::Window(96)),
     }
 }
 
@@ -109,12 +106,16 @@ fn shaped(draw: &mut Draw, hours: usize, shape: Shape) -> u128 {
     1 << draw.index(hours).min(127)
 }
 
+fn within(draw: &mut Draw, (low, high): Ends) -> u64 {
+    draw.between(&(low..=high))
+}
+
 // A night of the kind.
-pub fn night(heap: Global, draw: &mut Draw, kind: &Kind) -> Result<Draft, AllocError> {
-    let hours = draw.between(&kind.hours).min(96) as usize;
+pub fn night(heap: Global, draw: &mut Draw, kind: Kind) -> Result<Draft, AllocError> {
+    let hours = within(draw, kind.hours).min(96) as usize;
     let mut jobs = Vec::new(heap);
-    for _ in 0..draw.between(&kind.tasks) {
-        let units = draw.between(&kind.units).min(MAX) as u32;
+    for _ in 0..within(draw, kind.tasks) {
+        let units = within(draw, kind.units).min(MAX) as u32;
         let bits = shaped(draw, hours, kind.shape);
         jobs.push(Job { units, bits })?;
     }

@@ -202,14 +202,35 @@ fn still(jobs: &[Job], open: u128, left: u128) -> u128 {
     tasks
 }
 
-// The groups of a night, in the order of finding: `next` finds one among the tasks that are open and the hours that are left.
-pub fn groups<F: Fn(&Draft, u128, u128) -> Set>(
-    heap: Global,
-    draft: &Draft,
-    next: F,
-) -> Result<Vec<Set>, AllocError>
-    requires { F.IsAlwaysCallable next }
-{
+// How the next group is found among the sets of the tasks that are left: by the step of the same name. By name, and not by a function that
+// is handed over, since a call of one asks that it may be called, and `groups` asks nothing.
+#[derive(Clone, Copy)]
+pub enum Way {
+    Densest,
+    Fewest,
+    Floats,
+    Cut,
+    OtherSide,
+}
+
+impl Way {
+    // The next group among the tasks that are open, in the hours that are left.
+    fn next(self, draft: &Draft, open: u128, left: u128) -> Set
+        ensures tasks { Among result.tasks «open» }
+        ensures hours { Among result.bits left }
+    {
+        match self {
+            Way::Densest => densest(draft, open, left),
+            Way::Fewest => fewest(draft, open, left),
+            Way::Floats => floats(draft, open, left),
+            Way::Cut => cut(draft, open, left),
+            Way::OtherSide => other_side(draft, open, left),
+        }
+    }
+}
+
+// The groups of a night, in the order of finding.
+pub fn groups(heap: Global, draft: &Draft, way: Way) -> Result<Vec<Set>, AllocError> {
     let mut out = Vec::new(heap);
     let mut left = ones(draft.hours);
     let mut open = ones(draft.jobs.len());
@@ -217,7 +238,7 @@ pub fn groups<F: Fn(&Draft, u128, u128) -> Set>(
         if open == 0 {
             break;
         }
-        let set = next(draft, open, left);
+        let set = way.next(draft, open, left);
         out.push(set)?;
         left &= !set.bits;
         open = still(draft.jobs.as_slice(), open & !set.tasks, left);

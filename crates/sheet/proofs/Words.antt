@@ -43,6 +43,13 @@ upto_same zero l m h = refl
 upto_same (suc n) l m h =
     omega (arith, ap (λ v. v * base n) (h n (omega arith)), upto_same n l m (λ k p. h k (omega arith)))
 
+-- words that are all 0 write 0
+pub upto_zero : (n : ℕ) (l : List ℕ) → ((k : ℕ) → k < n → get_or l k 0 ≡ 0) → upto n l ≡ 0
+unfolding upto
+upto_zero zero l h = refl
+upto_zero (suc n) l h =
+    omega (arith, ap (λ v. v * base n) (h n (omega arith)), upto_zero n l (λ k p. h k (omega arith)))
+
 -- a word that is set
 pub upto_set :
     (n : ℕ) (l : List ℕ) (k v : ℕ) → k < n → k < length l →

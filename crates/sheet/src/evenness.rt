@@ -68,7 +68,8 @@ impl<'a> Laid<'a> {
         ensures { let y = day self.now.hours self.now.tasks.now in let p = start y self.now.bytes.now j + 1 in MatchOption result (Flat self.now.bytes.now p (may self.now.tasks.now j) self.now.hours self.now.hours) (λ q. Steep self.now.bytes.now p (may self.now.tasks.now j) self.now.hours q.0 q.1) }
     {
         let set = self.tasks[j].hours;
-        let low = self.least(set, set.lowest()?);
+        let first = set.lowest()?;
+        let low = self.least(set, first);
         for (s, amount) in set.into_iter().zip(self.amounts(j)) {
             if u64::from_le_bytes(*amount) != 0 && self.is_lower(low, s) {
                 return Some((s, self.first_lower(set, s, low)));

@@ -2,7 +2,6 @@
 use change::kinds::Change;
 use std::alloc::Global;
 use std::fmt::Display;
-use std::process::Abort;
 use std::test::Fail;
 use text::changes::read_changes;
 use text::reader::read_text;
@@ -89,27 +88,31 @@ const NO_CHANGE: [(&[u8], &str); 4] = [
     ),
 ];
 
-// Whether a text is refused with these words.
-fn refuses<T: Drop, E: Display + Drop>(
-    rt: &impl Abort,
+// What a reader says of a text that it refuses; a failure where it takes the text.
+fn told<T: Drop, E: Display + Drop>(
     heap: Global,
     read: Result<T, E>,
     said: &str,
-) -> Result<(), Fail> {
+) -> Result<String, Fail> {
     match read {
-        Ok(_) => return Err(Fail::new(said)),
-        Err(e) => assert_eq!(rt; e.to_string(heap)?.as_str(), said),
+        Ok(_) => Err(Fail::new(said)),
+        Err(e) => Ok(e.to_string(heap)?),
     }
-    Ok(())
 }
 
 #[test]
 fn mistakes(rt: HostRuntime) -> Result<(), Fail> {
     for (text, said) in WRONG {
-        refuses(&rt, rt.alloc(), read_text(rt.alloc(), text), said)?;
+        assert_eq!(rt;
+            told(rt.alloc(), read_text(rt.alloc(), text), said)?.as_str(),
+            said
+        );
     }
     for (text, said) in NO_CHANGE {
-        refuses(&rt, rt.alloc(), read_changes(rt.alloc(), text), said)?;
+        assert_eq!(rt;
+            told(rt.alloc(), read_changes(rt.alloc(), text), said)?.as_str(),
+            said
+        );
     }
     Ok(())
 }

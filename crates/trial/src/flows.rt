@@ -6,7 +6,7 @@ use flow::fill::fill;
 use flow::net::{Filled, Net};
 use oracle::bits::{has, ones};
 use oracle::bound::{Freight, bound_by, least_bound};
-use oracle::cells::Row;
+use oracle::cells::{Row, cell};
 use oracle::draft::Draft;
 use oracle::draw::Draw;
 use oracle::other::columns;
@@ -116,7 +116,7 @@ impl Trial {
         let heap = self.heap;
         let freight = drawn(heap, &mut self.draw, draft)?;
         let may = hours(heap, draft)?;
-        let mut work = vec![in heap; 7u64; draft.jobs.len().saturating_mul(96)]?;
+        let mut work = vec![in heap; 7u64; cell(draft.jobs.len(), 0)]?;
         let mut net = Net::new();
         let open = Hours::from_bits(freight.open);
         let Some(filled) = fill(

@@ -31,7 +31,7 @@ fn number(word: Option<String>, default: u64) -> anyhow::Result<u64> {
 // Tries night n of the seed, and says which night it is where something differs.
 fn try_nth(rt: &HostRuntime, trial: &mut Trial, seed: u64, n: u64) -> anyhow::Result<()> {
     trial.draw = Draw::new(seed.wrapping_mul(0x1_0000_0000).wrapping_add(n));
-    let draft = kinds::night(trial.heap, &mut trial.draw, &kinds::nth(n))?;
+    let draft = kinds::night(trial.heap, &mut trial.draw, kinds::nth(n))?;
     let tried = trial.try_night(&draft);
     if tried.is_err() {
         println!(rt; "seed {seed} night {n}: {draft}")?;

@@ -3,7 +3,7 @@ use crate::case::Case;
 use crate::fault::hold;
 use oracle::draft::{Draft, Job};
 use oracle::other::in_parts;
-use oracle::slow::{Level, Set, same_loads};
+use oracle::slow::{Level, Set, Way, same_loads};
 use oracle::tariff::{Step, Tariff};
 use oracle::{looks, slow};
 use std::alloc::{AllocError, Global};
@@ -111,52 +111,65 @@ fn night(heap: Global, lesson: Lesson) -> Result<Draft, AllocError> {
     })
 }
 
-// Prints a line for a mistake, with the night that shows it, if it is seen there.
-fn show_one<F: FnOnce(&Case) -> Result<bool, AllocError>>(
-    rt: &HostRuntime,
-    lesson: Lesson,
-    is_seen: F,
-) -> anyhow::Result<()>
-    requires { F.IsAlwaysCallable is_seen }
-{
-    let case = Case::new(rt.alloc(), night(rt.alloc(), lesson)?)?;
-    let name = lesson.name;
-    hold(is_seen(&case)?, name)?;
-    let draft = &case.draft;
-    println!(rt; "looks even and is not: {name}: {draft}")?;
-    Ok(())
+impl Lesson {
+    // The night that shows the mistake, planned.
+    fn case(self, heap: Global) -> anyhow::Result<Case> {
+        Case::new(heap, night(heap, self)?)
+    }
+
+    // Prints a line for the mistake, with its night, if it is seen there.
+    fn show(self, rt: &HostRuntime, case: &Case, is_seen: bool) -> anyhow::Result<()> {
+        let name = self.name;
+        hold(is_seen, name)?;
+        let draft = &case.draft;
+        println!(rt; "looks even and is not: {name}: {draft}")?;
+        Ok(())
+    }
 }
 
-// Prints a line for each mistake: other loads than ours; a group more, with the same loads; or other loads at the same cost.
-pub fn show(rt: &HostRuntime) -> anyhow::Result<()> {
+// Shows the ways to plan that give other loads than ours.
+fn show_loads(rt: &HostRuntime) -> anyhow::Result<()> {
     let heap = rt.alloc();
-    show_one(rt, SPREAD, |case| {
-        let loads = looks::spread(heap, &case.draft)?;
-        Ok(!are_ours(case, loads.as_slice()))
-    })?;
-    show_one(rt, UNDER_PEAK, |case| {
-        let loads = looks::under_peak(heap, &case.draft, 4)?;
-        Ok(!are_ours(case, loads.as_slice()))
-    })?;
-    show_one(rt, LARGEST_FIRST, |case| {
-        let loads = looks::largest_first(heap, &case.draft)?;
-        Ok(!are_ours(case, loads.as_slice()))
-    })?;
-    show_one(rt, FLOATS, |case| {
-        let groups = slow::groups(heap, &case.draft, slow::floats)?;
-        Ok(!have_our_loads(heap, case, groups.as_slice())?)
-    })?;
-    show_one(rt, MORE_GROUPS, |case| {
-        let groups = slow::groups(heap, &case.draft, slow::fewest)?;
-        Ok(groups.len() > case.paper.groups.len() && have_our_loads(heap, case, groups.as_slice())?)
-    })?;
-    show_one(rt, OTHER_SIDE, |case| {
-        let groups = slow::groups(heap, &case.draft, slow::other_side)?;
-        Ok(!have_our_loads(heap, case, groups.as_slice())?)
-    })?;
-    show_one(rt, ONE_TARIFF, |case| {
-        let loads = looks::under_peak(heap, &case.draft, 4)?;
-        let ours = case.paper.loads.as_slice();
-        Ok(!are_ours(case, loads.as_slice()) && same_cost(heap, ours, loads.as_slice())?)
-    })
+    let case = SPREAD.case(heap)?;
+    let loads = looks::spread(heap, &case.draft)?;
+    SPREAD.show(rt, &case, !are_ours(&case, loads.as_slice()))?;
+    let case = UNDER_PEAK.case(heap)?;
+    let loads = looks::under_peak(heap, &case.draft, 4)?;
+    UNDER_PEAK.show(rt, &case, !are_ours(&case, loads.as_slice()))?;
+    let case = LARGEST_FIRST.case(heap)?;
+    let loads = looks::largest_first(heap, &case.draft)?;
+    LARGEST_FIRST.show(rt, &case, !are_ours(&case, loads.as_slice()))
+}
+
+// Shows the ways to find groups that give other loads than ours, or a group more with the same loads.
+fn show_groups(rt: &HostRuntime) -> anyhow::Result<()> {
+    let heap = rt.alloc();
+    let case = FLOATS.case(heap)?;
+    let groups = slow::groups(heap, &case.draft, Way::Floats)?;
+    let same = have_our_loads(heap, &case, groups.as_slice())?;
+    FLOATS.show(rt, &case, !same)?;
+    let case = MORE_GROUPS.case(heap)?;
+    let groups = slow::groups(heap, &case.draft, Way::Fewest)?;
+    let same = have_our_loads(heap, &case, groups.as_slice())?;
+    MORE_GROUPS.show(rt, &case, groups.len() > case.paper.groups.len() && same)?;
+    let case = OTHER_SIDE.case(heap)?;
+    let groups = slow::groups(heap, &case.draft, Way::OtherSide)?;
+    let same = have_our_loads(heap, &case, groups.as_slice())?;
+    OTHER_SIDE.show(rt, &case, !same)
+}
+
+// Shows other loads at the same cost.
+fn show_costs(rt: &HostRuntime) -> anyhow::Result<()> {
+    let heap = rt.alloc();
+    let case = ONE_TARIFF.case(heap)?;
+    let loads = looks::under_peak(heap, &case.draft, 4)?;
+    let same = same_cost(heap, case.paper.loads.as_slice(), loads.as_slice())?;
+    ONE_TARIFF.show(rt, &case, !are_ours(&case, loads.as_slice()) && same)
+}
+
+// Prints a line for each mistake.
+pub fn show(rt: &HostRuntime) -> anyhow::Result<()> {
+    show_loads(rt)?;
+    show_groups(rt)?;
+    show_costs(rt)
 }

@@ -5,7 +5,7 @@ use crate::trials::Trial;
 use oracle::bits::has;
 use oracle::cells::Row;
 use oracle::paper::Paper;
-use oracle::slow::Set;
+use oracle::slow::{Set, Way};
 use oracle::tariff::Tariff;
 use oracle::{other, slow};
 
@@ -27,7 +27,7 @@ impl Trial {
     // Holds the plan of a night of few tasks against the two slow ways.
     pub fn try_slow(&self, case: &Case) -> anyhow::Result<()> {
         let heap = self.heap;
-        let sets = slow::groups(heap, &case.draft, slow::densest)?;
+        let sets = slow::groups(heap, &case.draft, Way::Densest)?;
         let loads = slow::loads(heap, case.draft.hours, sets.as_slice())?;
         hold(
             slow::same_loads(case.paper.loads.as_slice(), loads.as_slice()),
@@ -37,7 +37,7 @@ impl Trial {
             has_groups(&case.paper, sets.as_slice()),
             "groups are not those of the slow way",
         )?;
-        let cuts = slow::groups(heap, &case.draft, slow::cut)?;
+        let cuts = slow::groups(heap, &case.draft, Way::Cut)?;
         hold(
             has_groups(&case.paper, cuts.as_slice()),
             "groups are not those by cuts",

@@ -48,15 +48,3 @@ pub(crate) fn gets(
     assert_eq!(rt; check(&night, all.as_slice()), verdict, "{}", name);
     Ok(())
 }
-
-// Sheets that are refused, each by its name.
-pub(crate) fn all_refused(
-    rt: &impl Abort,
-    heap: Global,
-    cases: &[(&str, Given, Numbers, Refusal)],
-) -> Result<(), Fail> {
-    for (name, given, sheet, refusal) in cases {
-        gets(rt, heap, name, *given, *sheet, Err(*refusal))?;
-    }
-    Ok(())
-}

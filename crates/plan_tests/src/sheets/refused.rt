@@ -1,6 +1,6 @@
 // Sheets whose numbers are wrong.
 use crate::given::{A, B, C, Given};
-use crate::sheets::numbers::{Numbers, all_refused};
+use crate::sheets::numbers::{Numbers, gets};
 use sheet::refusal::Refusal;
 use std::test::Fail;
 
@@ -230,5 +230,8 @@ const CASES: [(&str, Given, Numbers, Refusal); 29] = [
 
 #[test]
 fn refused(rt: HostRuntime) -> Result<(), Fail> {
-    all_refused(&rt, rt.alloc(), &CASES)
+    for (name, night, sheet, refusal) in CASES {
+        gets(&rt, rt.alloc(), name, night, sheet, Err(refusal))?;
+    }
+    Ok(())
 }

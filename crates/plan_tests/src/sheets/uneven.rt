@@ -1,6 +1,6 @@
 // Plans that look even, as sheets: each task and each load adds up.
 use crate::given::{A, C, D, E, F, G, Given};
-use crate::sheets::numbers::{Numbers, all_refused};
+use crate::sheets::numbers::{Numbers, gets};
 use sheet::refusal::Refusal;
 use std::test::Fail;
 
@@ -96,5 +96,8 @@ const CASES: [(&str, Given, Numbers, Refusal); 9] = [
 
 #[test]
 fn looks_even(rt: HostRuntime) -> Result<(), Fail> {
-    all_refused(&rt, rt.alloc(), &CASES)
+    for (name, night, sheet, refusal) in CASES {
+        gets(&rt, rt.alloc(), name, night, sheet, Err(refusal))?;
+    }
+    Ok(())
 }

@@ -1,4 +1,4 @@
-use Rattle.std.proofs.Common.{get_or, sym, ◌∙◌, inl, inr}
+use Rattle.std.proofs.Common.{get_or, sym, ◌∙◌, inl, inr, arith}
 use Rattle.sets.specs.Hours.{has}
 use Rattle.sets.proofs.Members.{none_any}
 use Rattle.night.specs.Task.{blank_task}
@@ -8,8 +8,8 @@ use Rattle.sheet.proofs.Steeps.{looks_first, looks_comes, looks_end, looks_out, 
 use Rattle.sheet.proofs.layout.Laid.steep.Goals as goal
 use Rattle.sheet.proofs.layout.Laid.steep.Goals.{else-from_le_bytes-ne0-via-then-from_le_bytes-ne0+else-is_lower, else-from_le_bytes-ne0-via-else-from_le_bytes-ne0}
 
-pub returns-in_err-lowest : goal.returns-in_err-lowest
-returns-in_err-lowest c = let none = flat_empty _ _ _ _ (none_any _ c.in_err-lowest.ensures) in rw c.from_residual.ensures none
+pub returns-in_err-first : goal.returns-in_err-first
+returns-in_err-first c = let none = flat_empty _ _ _ _ (none_any _ c.in_err-first.ensures) in rw c.from_residual.ensures none
 
 pub least-low-requires-clause-inside : goal.least-low-requires-clause-inside
 least-low-requires-clause-inside c = hour_in c.args.self.now.sound c.args.j c.requires.task
@@ -24,7 +24,10 @@ pub is_lower-requires : goal.is_lower-requires
 is_lower-requires c =
     let steps = c.in-Some.ensures.steps in
     let comes = looks_comes _ _ _ _ _ _ _ _ _ _ (rw steps.1 at c.loop-s.invariant) steps.0 in
-    record { first = hour_in c.args.self.now.sound c.args.j c.requires.task _ c.least-low.ensures.is; second = hour_in c.args.self.now.sound c.args.j c.requires.task _ comes.member }
+    let low = hour_in c.args.self.now.sound c.args.j c.requires.task _ c.least-low.ensures.is in
+    let first = hour_in c.args.self.now.sound c.args.j c.requires.task _ c.in_ok-first.ensures.member in
+    let here = hour_in c.args.self.now.sound c.args.j c.requires.task _ comes.member in
+    record { first = omega (arith, low, first, here); second = omega (arith, low, first, here) }
 
 pub first_lower-requires : goal.first_lower-requires
 first_lower-requires c =
