@@ -1,5 +1,6 @@
 // How much fits under capacities, by going through all sets of tasks: each set bounds it, and the least bound is reached.
 use crate::bits::has;
+use crate::cells::item;
 use crate::draft::Draft;
 use crate::slow::sets;
 
@@ -24,11 +25,11 @@ fn borne(capacity: &[u64; 96], bits: u128) -> u64 {
 pub fn bound_by(draft: &Draft, freight: &Freight, tasks: u128) -> u64 {
     let mut others: u64 = 0;
     let mut bits: u128 = 0;
-    for (j, (job, supply)) in draft.jobs.iter().zip(freight.supply.iter()).enumerate() {
+    for (j, job) in draft.jobs.iter().enumerate() {
         if has(tasks, j) {
             bits |= job.bits & freight.open;
         } else {
-            others = others.saturating_add(*supply);
+            others = others.saturating_add(item(freight.supply.as_slice(), j));
         }
     }
     others.saturating_add(borne(&freight.capacity, bits))

@@ -33,7 +33,7 @@ pub fn write(out: &mut Vec<u8>, n: u128, width: usize) -> Result<(), AllocError>
 pub fn row_width(hours: usize) -> usize
     ensures { hours + 7 < 2 ^ 64 → result ≡ (hours + 7) / 8 }
 {
-    hours.div_ceil(8)
+    hours.saturating_add(7) / 8
 }
 
 pub fn night_bytes(heap: Global, draft: &Draft) -> Result<Vec<u8>, AllocError> {

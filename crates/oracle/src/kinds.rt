@@ -32,42 +32,42 @@ pub struct Kind {
 
 const MAX: u64 = MOST_UNITS as u64;
 
-fn of(hours: Ends, tasks: Ends, units: Ends, shape: Shape) -> Kind {
+// The hours, tasks, units and shape of each kind.
+const KINDS: [(Ends, Ends, Ends, Shape); 20] = [
+    // few tasks: small numbers, so that levels meet
+    ((1, 4), (1, 4), (0, 4), Shape::Scattered(60)),
+    ((2, 6), (2, 7), (0, 6), Shape::Scattered(40)),
+    ((3, 9), (3, 9), (1, 12), Shape::Window(4)),
+    ((4, 12), (3, 9), (1, 30), Shape::Pieces(3)),
+    ((6, 24), (4, 10), (0, 99), Shape::Same(3)),
+    ((2, 8), (2, 8), (0, 1), Shape::Window(3)),
+    // few tasks: huge units, and levels that lie near one another
+    ((20, 96), (3, 9), (0, MAX), Shape::Window(40)),
+    ((5, 96), (4, 9), (MAX - 2, MAX), Shape::Pieces(20)),
+    ((3, 30), (4, 9), (MAX, MAX), Shape::Scattered(30)),
+    // the edges: one hour, no task, no units
+    ((1, 1), (0, 9), (0, MAX), Shape::Window(1)),
+    ((1, 96), (0, 0), (0, 0), Shape::Window(1)),
+    ((1, 20), (1, 8), (0, 0), Shape::Scattered(30)),
+    // many tasks: dense, thin, windows, pieces, equal windows, many groups, near levels, 96 hours
+    ((24, 48), (100, 200), (0, MAX), Shape::Scattered(70)),
+    ((24, 96), (50, 200), (0, 50), Shape::Scattered(4)),
+    ((24, 96), (60, 200), (1, 200), Shape::Window(8)),
+    ((24, 96), (60, 200), (1, MAX), Shape::Pieces(6)),
+    ((24, 96), (60, 200), (0, 9), Shape::Same(4)),
+    ((60, 96), (60, 120), (0, MAX), Shape::Window(2)),
+    ((40, 96), (100, 200), (MAX - 10, MAX), Shape::Window(5)),
+    ((96, 96), (200, 200), (0, MAX), Shape::Window(96)),
+];
+
+// The kind of night n: all kinds in turn.
+pub fn nth(n: u64) -> Kind {
+    let (hours, tasks, units, shape) = KINDS[(n % 20) as usize];
     Kind {
         hours,
         tasks,
         units,
         shape,
-    }
-}
-
-// The kind of night n: all kinds in turn.
-pub fn nth(n: u64) -> Kind {
-    match n % 20 {
-        // few tasks: small numbers, so that levels meet
-        0 => of((1, 4), (1, 4), (0, 4), Shape::Scattered(60)),
-        1 => of((2, 6), (2, 7), (0, 6), Shape::Scattered(40)),
-        2 => of((3, 9), (3, 9), (1, 12), Shape::Window(4)),
-        3 => of((4, 12), (3, 9), (1, 30), Shape::Pieces(3)),
-        4 => of((6, 24), (4, 10), (0, 99), Shape::Same(3)),
-        5 => of((2, 8), (2, 8), (0, 1), Shape::Window(3)),
-        // few tasks: huge units, and levels that lie near one another
-        6 => of((20, 96), (3, 9), (0, MAX), Shape::Window(40)),
-        7 => of((5, 96), (4, 9), (MAX - 2, MAX), Shape::Pieces(20)),
-        8 => of((3, 30), (4, 9), (MAX, MAX), Shape::Scattered(30)),
-        // the edges: one hour, no task, no units
-        9 => of((1, 1), (0, 9), (0, MAX), Shape::Window(1)),
-        10 => of((1, 96), (0, 0), (0, 0), Shape::Window(1)),
-        11 => of((1, 20), (1, 8), (0, 0), Shape::Scattered(30)),
-        // many tasks: dense, thin, windows, pieces, equal windows, many groups, near levels, 96 hours
-        12 => of((24, 48), (100, 200), (0, MAX), Shape::Scattered(70)),
-        13 => of((24, 96), (50, 200), (0, 50), Shape::Scattered(4)),
-        14 => of((24, 96), (60, 200), (1, 200), Shape::Window(8)),
-        15 => of((24, 96), (60, 200), (1, MAX), Shape::Pieces(6)),
-        16 => of((24, 96), (60, 200), (0, 9), Shape::Same(4)),
-        17 => of((60, 96), (60, 120), (0, MAX), Shape::Window(2)),
-        18 => of((40, 96), (100, 200), (MAX - 10, MAX), Shape::Window(5)),
-        _ => of((96, 96), (200, 200), (0, MAX), Shape::Window(96)),
     }
 }
 

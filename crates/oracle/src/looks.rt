@@ -21,7 +21,7 @@ pub fn spread(heap: Global, draft: &Draft) -> Result<Vec<Level>, AllocError> {
     let mut loads = vec![in heap; 0u64; draft.hours]?;
     for job in draft.jobs.iter() {
         let share = u64::from(job.units) * 840 / u64::from(job.bits.count_ones()).max(1);
-        for (s, load) in loads.iter_mut().enumerate() {
+        for (s, load) in loads.iter_mut().enumerate().take(96) {
             if has(job.bits, s) {
                 *load = load.saturating_add(share);
             }
@@ -35,7 +35,7 @@ pub fn under_peak(heap: Global, draft: &Draft, peak: u64) -> Result<Vec<Level>, 
     let mut loads = vec![in heap; 0u64; draft.hours]?;
     for job in draft.jobs.iter() {
         let mut rest = u64::from(job.units);
-        for (s, load) in loads.iter_mut().enumerate() {
+        for (s, load) in loads.iter_mut().enumerate().take(96) {
             if has(job.bits, s) {
                 let share = rest.min(peak.saturating_sub(*load));
                 *load = load.saturating_add(share);

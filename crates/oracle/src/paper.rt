@@ -124,7 +124,8 @@ impl Paper {
         for bits in self.groups.iter() {
             write(&mut out, *bits, row_width(draft.hours))?;
         }
-        for (job, share) in draft.jobs.iter().zip(self.shares.iter()) {
+        for (j, job) in draft.jobs.iter().enumerate() {
+            let share = self.share(j);
             out.push(share.group)?;
             for (s, x) in share.amounts.iter().enumerate() {
                 if has(job.bits, s) {
@@ -133,6 +134,14 @@ impl Paper {
             }
         }
         Ok(out)
+    }
+
+    // What is said of a task: its group is the first, and nothing is done, where nothing is said.
+    fn share(&self, j: usize) -> Share {
+        self.shares.get(j).copied().unwrap_or(Share {
+            group: 0,
+            amounts: [0; 96],
+        })
     }
 
     // What is done of a task in an hour.
@@ -178,8 +187,9 @@ impl Paper {
         parts: u64,
     ) -> Result<Vec<Row>, AllocError> {
         let mut out = Vec::new(heap);
-        for share in self.shares.iter() {
-            let by = parts / u64::from(self.over(draft, share)).max(1);
+        for j in 0..draft.jobs.len() {
+            let share = self.share(j);
+            let by = parts / u64::from(self.over(draft, &share)).max(1);
             out.push(share.amounts.map(|x| x.saturating_mul(by)))?;
         }
         Ok(out)
