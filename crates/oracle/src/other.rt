@@ -2,7 +2,7 @@
 ghost use Rattle.std.specs.Prelude.{◌<◌};
 
 use crate::bits::has;
-use crate::cells::{Row, item, raise};
+use crate::cells::{Row, cell, item, raise};
 use crate::draft::{Draft, Job};
 use crate::draw::Draw;
 use crate::slow::Level;
@@ -47,29 +47,44 @@ pub fn drawn(
     Ok(amounts)
 }
 
+// What is done of a task in an hour, 0 behind the last row. The rows stand one behind another: an hour from 96 on falls into
+// a later task's.
+fn amount(amounts: &[Row], j: usize, s: usize) -> u64 {
+    item(amounts.as_flattened(), cell(j, s))
+}
+
+// Takes so much from an hour, as far as it has that, and adds it to another.
+fn carry(row: &mut Row, from: usize, to: usize, by: u64) {
+    if let Some(x) = row.get_mut(from) {
+        *x = x.saturating_sub(by);
+    }
+    raise(row, to, by);
+}
+
 // Makes a plan another one near it: of some tasks, a part of what is done in one hour is done in another.
 pub fn nudge(draw: &mut Draw, draft: &Draft, amounts: &mut [Row]) {
     for _ in 0..3 {
         let j = draw.index(draft.jobs.len());
-        if let (Some(job), Some(row)) = (draft.jobs.get(j), amounts.get_mut(j)) {
+        if let Some(job) = draft.jobs.get(j) {
             let from = any_hour(draw, job.bits);
             let to = any_hour(draw, job.bits);
-            let by = draw.below(item(row.as_slice(), from).saturating_add(1));
-            if let Some(x) = row.get_mut(from) {
-                *x = x.saturating_sub(by);
+            let by = draw.below(amount(amounts, j, from).saturating_add(1));
+            if let Some(row) = amounts.get_mut(j) {
+                carry(row, from, to, by);
             }
-            raise(row, to, by);
         }
     }
 }
 
 // What lies in each hour.
 pub fn columns(heap: Global, draft: &Draft, amounts: &[Row]) -> Result<Vec<u64>, AllocError> {
-    (0..draft.hours).map(|s| column(amounts, s)).collect(heap)
+    (0..draft.hours)
+        .map(|s| column(draft, amounts, s))
+        .collect(heap)
 }
 
-fn column(amounts: &[Row], s: usize) -> u64 {
-    amounts.iter().fold(0u64, |sum, row| sum.saturating_add(item(row.as_slice(), s)))
+fn column(draft: &Draft, amounts: &[Row], s: usize) -> u64 {
+    (0..draft.jobs.len()).fold(0u64, |sum, j| sum.saturating_add(amount(amounts, j, s)))
 }
 
 // The greatest common divisor, but 1 in the place of 0.

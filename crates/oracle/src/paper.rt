@@ -1,7 +1,7 @@
 // A sheet as the trial holds it, and a plain checker of it.
 use crate::bits::{has, ones};
 use crate::bytes::{number, row_width, write};
-use crate::cells::{Row, item};
+use crate::cells::{Row, cell, item};
 use crate::draft::Draft;
 use crate::exact::Amounts;
 use crate::slow::Level;
@@ -144,18 +144,18 @@ impl Paper {
         })
     }
 
-    // What is done of a task in an hour.
-    pub(crate) fn amount(&self, j: usize, s: usize) -> u64 {
-        match self.shares.get(j) {
-            Some(share) => item(&share.amounts, s),
-            None => 0,
-        }
+    // What is done of a task in an hour; none behind the last row. The rows stand one behind another: an hour from 96 on falls
+    // into a later task's.
+    pub(crate) fn amount(&self, j: usize, s: usize) -> Option<u64> {
+        let at = cell(j, s);
+        self.shares.get(at / 96)?.amounts.get(at % 96).copied()
     }
 
-    // Adds to what is done of a task in an hour, and wraps around.
+    // Adds to what is done of a task in an hour, and wraps around; to nothing behind the last row.
     pub(crate) fn add(&mut self, j: usize, s: usize, by: u64) {
-        if let Some(share) = self.shares.get_mut(j) {
-            if let Some(x) = share.amounts.get_mut(s) {
+        let at = cell(j, s);
+        if let Some(share) = self.shares.get_mut(at / 96) {
+            if let Some(x) = share.amounts.get_mut(at % 96) {
                 *x = x.wrapping_add(by);
             }
         }
@@ -187,6 +187,7 @@ impl Paper {
         parts: u64,
     ) -> Result<Vec<Row>, AllocError> {
         let mut out = Vec::new(heap);
+        // by number: of a task nothing may be said
         for j in 0..draft.jobs.len() {
             let share = self.share(j);
             let by = parts / u64::from(self.over(draft, &share)).max(1);
@@ -198,8 +199,8 @@ impl Paper {
     // Whether an hour's load is that of the amounts.
     fn is_loaded(&self, draft: &Draft, s: usize) -> bool {
         let mut lies = Amounts::NONE;
-        for share in self.shares.iter() {
-            let amount = item(&share.amounts, s);
+        for (j, share) in self.shares.iter().enumerate() {
+            let amount = self.amount(j, s).unwrap_or(0);
             if amount > 0 {
                 lies.add(amount, self.over(draft, share));
             }

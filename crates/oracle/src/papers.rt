@@ -28,14 +28,17 @@ pub fn sheet_of(
     let by = factors(draw);
     let mut paper = Paper::empty(heap);
     let loads = columns(heap, draft, amounts)?;
-    for (s, (load, more)) in loads.iter().zip(by.iter()).enumerate() {
+    for (s, load) in loads.iter().enumerate() {
+        let more = item(&by, s);
         paper.loads.push(Level {
-            units: load.saturating_mul(*more),
-            hours: parts.saturating_mul(*more),
+            units: load.saturating_mul(more),
+            hours: parts.saturating_mul(more),
         })?;
         paper.groups.push(1 << s.min(127))?;
     }
-    for row in amounts.iter() {
+    // by number: a task may have no row
+    for j in 0..draft.jobs.len() {
+        let row = amounts.get(j).copied().unwrap_or([0; 96]);
         let g = draw.index(draft.hours);
         let more = item(&by, g);
         paper.shares.push(Share {
@@ -46,15 +49,18 @@ pub fn sheet_of(
     Ok(paper)
 }
 
-// Takes from one task's amount of an hour what it adds to another; now and then so much that both wrap around.
+// Takes from one task's amount of an hour what it adds to another, where both are there; now and then so much that both wrap
+// around.
 fn shift(draw: &mut Draw, paper: &mut Paper, (j, s): (usize, usize), (i, t): (usize, usize)) {
-    let by = if draw.below(4) == 0 {
-        1 << 63
-    } else {
-        draw.below(paper.amount(j, s).saturating_add(1))
-    };
-    paper.add(j, s, by.wrapping_neg());
-    paper.add(i, t, by);
+    if let (Some(x), Some(_)) = (paper.amount(j, s), paper.amount(i, t)) {
+        let by = if draw.below(4) == 0 {
+            1 << 63
+        } else {
+            draw.below(x.saturating_add(1))
+        };
+        paper.add(j, s, by.wrapping_neg());
+        paper.add(i, t, by);
+    }
 }
 
 // Makes a sheet wrong, mostly: amounts moved between tasks or hours, a task of another group, an empty group, another denominator.
