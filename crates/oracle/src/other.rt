@@ -53,7 +53,7 @@ fn amount(amounts: &[Row], j: usize, s: usize) -> u64 {
     item(amounts.as_flattened(), cell(j, s))
 }
 
-// Takes so much from an hour, as far as it has that, and adds it to another.
+// Takes so much from an hour, down to nothing, and adds so much to another.
 fn carry(row: &mut Row, from: usize, to: usize, by: u64) {
     if let Some(x) = row.get_mut(from) {
         *x = x.saturating_sub(by);
